@@ -1,0 +1,3 @@
+// Numbers written into slices of bytes.
+pub mod fields;
+pub mod laws;
