@@ -1,0 +1,5 @@
+pub mod State
+pub mod Faults
+pub mod Steps
+pub mod Actions
+pub mod Laws
