@@ -1,0 +1,3 @@
+// A device in memory.
+pub mod cell;
+pub mod ram;
