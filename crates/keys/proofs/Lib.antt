@@ -1,0 +1,1 @@
+-- Nothing is proved by hand here.

@@ -1,0 +1,2 @@
+-- When keys are the same.
+pub mod Keys

@@ -1,0 +1,2 @@
+// The key that patches and cancels are searched by.
+pub mod patch;

@@ -1,0 +1,2 @@
+-- The lemmas on what a search finds.
+pub mod Firsts

@@ -1,0 +1,3 @@
+// One search over entries, by the keys that they have.
+pub mod entry;
+pub mod key;
