@@ -1,0 +1,2 @@
+-- The lemmas on labels and positions.
+pub mod Back
