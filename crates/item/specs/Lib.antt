@@ -1,0 +1,4 @@
+pub mod Meaning
+pub mod Buffer
+pub mod Intent
+pub mod Built

@@ -1,0 +1,16 @@
+pub mod Worked
+pub mod Outcomes
+pub mod Sums
+pub mod Stamped
+pub mod Back
+pub mod Opsback
+pub mod Readback
+pub mod Found
+pub mod Finds
+pub mod Laid
+pub mod Checked
+pub mod Puts
+pub mod Commits
+pub mod Kept
+pub mod Steadily
+pub mod Begins

@@ -1,0 +1,9 @@
+pub mod Refusals
+pub mod View
+pub mod Items
+pub mod Ops
+pub mod Reading
+pub mod Lay
+pub mod Calls
+pub mod Laws
+pub mod Cases
