@@ -1,4 +1,6 @@
 // Banks: the kinds of items that a journal knows, by their type numbers.
+#![tactic(auto)]
+
 pub mod bank;
 pub mod built;
 pub mod one;

@@ -1,4 +1,6 @@
 // The bank of the two built kinds and a bank of one kind, on items in the middle of a buffer.
+#![tactic(auto)]
+
 #[cfg(test)]
 mod tests {
     use bank::bank::ItemBank;

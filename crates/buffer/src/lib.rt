@@ -1,4 +1,6 @@
 // The kind of buffers: patches of chunks of 128 bytes that a map tells, and cancels.
+#![tactic(auto)]
+
 pub mod cases;
 mod cursor;
 pub mod kind;

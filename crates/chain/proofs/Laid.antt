@@ -7,7 +7,7 @@ use Rattle.device.specs.State.{DevState, sector_at, bytes_of}
 use Rattle.device.specs.Steps.{read}
 use Rattle.label.specs.declared.label.Label.{Label}
 use Rattle.label.specs.Position.{volume_sector}
-use Rattle.log.proofs.Rows.{read_holds}
+use Rattle.volume_log.proofs.Rows.{read_holds}
 use Rattle.chain.specs.Rows.{row, over}
 use Rattle.chain.proofs.Positions.{bytes_at, joined_more}
 

@@ -7,7 +7,7 @@ use Rattle.device.specs.Steps.{read, then_read, then_rest}
 use Rattle.device.specs.declared.fault.DeviceFault.{DeviceFault}
 use Rattle.label.specs.declared.label.Label.{Label}
 use Rattle.label.specs.Position.{volume_sector}
-use Rattle.log.proofs.Rows.{not_both, read_holds}
+use Rattle.volume_log.proofs.Rows.{not_both, read_holds}
 use Rattle.chain.specs.Rows.{row, told, sectors_on, one_more, read_before}
 
 -- the bytes at position x

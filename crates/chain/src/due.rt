@@ -1,15 +1,15 @@
 // The header of a record that is due at a position.
 ghost use Rattle.std.specs.Prelude.{◌≡◌, nat_le};
 ghost use Rattle.chain.specs.Records.{header_due, header_on};
-ghost use Rattle.log.specs.Faults.{outcome};
+ghost use Rattle.volume_log.specs.Faults.{outcome};
 ghost use Rattle.record.specs.Record.{end_of};
 
 use device::interface::Device;
 use label::geometry::Geometry;
-use log::cause::LogFault;
-use log::sectors::read_sector;
 use record::header::RecordHeader;
 use record::heading::{header_of, is_header, sound};
+use volume_log::cause::LogFault;
+use volume_log::sectors::read_sector;
 
 // Whether the record whose header stands at `x` ends by `end`.
 fn ends_by(header: &RecordHeader, x: u64, end: u64) -> bool
@@ -44,7 +44,7 @@ pub(crate) fn due_header<D: Device>(
     x: u64,
     room: usize,
 ) -> Result<[u8; 512], LogFault>
-    ensures { outcome result ≡ header_on (state device.now) geometry.label end x room }
+    ensures { outcome result ≡ header_on (D.state device.now) geometry.label end x room }
 {
     if room < geometry.label.most as usize {
         return Err(LogFault::Buffer);

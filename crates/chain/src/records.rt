@@ -2,7 +2,7 @@
 ghost use Rattle.std.specs.Prelude.{◌≡◌, ℕ, ◌≤◌, List, ◌++◌, length, take, drop, Ok};
 ghost use Rattle.chain.specs.Records.{sum_right, sum_answer, header_answer, restored_data, left, read_record};
 ghost use Rattle.chain.specs.Standing.{Stands};
-ghost use Rattle.log.specs.Faults.{outcome};
+ghost use Rattle.volume_log.specs.Faults.{outcome};
 ghost use Rattle.model.specs.Reading.{data_sectors};
 ghost use Rattle.model.specs.View.{read_log};
 ghost use Rattle.record.specs.Record.{header_of, restored};
@@ -11,11 +11,11 @@ use crate::due::due_header;
 use crate::rows::read_row;
 use device::interface::Device;
 use label::geometry::Geometry;
-use log::cause::LogFault;
 use record::header::RecordHeader;
 use record::heading::header_of;
 use stored::saved::unpack;
 use stored::sum::checksum;
+use volume_log::cause::LogFault;
 
 // Whether the checksum of a record is the one that its header tells, by its data as stored.
 fn sum_is_right(sector: &[u8; 512], stored: &[u8]) -> bool
@@ -78,8 +78,8 @@ pub fn read_record<D: Device>(
     position: u64,
     buffer: &mut [u8],
 ) -> Result<RecordHeader, LogFault>
-    ensures read { left (outcome result) buffer.new ≡ read_record (state device.now) geometry.label end position buffer.old }
-    ensures stands { (sectors : List (List ℕ)) → read_log (state device.now) geometry.label ≡ Ok sectors → geometry.label.most ≤ length buffer.old → Stands geometry.label sectors end position buffer.old (left (outcome result) buffer.new) }
+    ensures read { left (outcome result) buffer.new ≡ read_record (D.state device.now) geometry.label end position buffer.old }
+    ensures stands { (sectors : List (List ℕ)) → read_log (D.state device.now) geometry.label ≡ Ok sectors → geometry.label.most ≤ length buffer.old → Stands geometry.label sectors end position buffer.old (left (outcome result) buffer.new) }
 {
     read_at(device, geometry, end, position, buffer)
 }
@@ -92,7 +92,7 @@ fn read_at<D: Device>(
     position: u64,
     buffer: &mut [u8],
 ) -> Result<RecordHeader, LogFault>
-    ensures { left (outcome result) buffer.new ≡ read_record (state device.now) geometry.label end position buffer.old }
+    ensures { left (outcome result) buffer.new ≡ read_record (D.state device.now) geometry.label end position buffer.old }
 {
     let sector = due_header(device, geometry, end, position, buffer.len())?;
     let sectors = header_of(&sector).length as usize / 512;

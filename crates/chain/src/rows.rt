@@ -17,9 +17,9 @@ pub(crate) fn read_row<D: Device>(
     buffer: &mut [u8],
 ) -> Result<(), DeviceFault>
     requires { (512 * sectors ≤ length buffer.old) × (first + sectors < 2 ^ 64) }
-    ensures answer { result ≡ told (sectors_on (state device.now) geometry.label first sectors) }
-    ensures buffer { buffer.new ≡ over (read_before (state device.now) geometry.label first sectors) (joined (row (state device.now) geometry.label first (read_before (state device.now) geometry.label first sectors))) buffer.old }
-    ensures whole { result ≡ Ok tt → length (joined (row (state device.now) geometry.label first sectors)) ≡ 512 * sectors }
+    ensures answer { result ≡ told (sectors_on (D.state device.now) geometry.label first sectors) }
+    ensures buffer { buffer.new ≡ over (read_before (D.state device.now) geometry.label first sectors) (joined (row (D.state device.now) geometry.label first (read_before (D.state device.now) geometry.label first sectors))) buffer.old }
+    ensures whole { result ≡ Ok tt → length (joined (row (D.state device.now) geometry.label first sectors)) ≡ 512 * sectors }
 {
     let count = geometry.label.count as u64;
     let mut sector = [0u8; 512];

@@ -1,4 +1,6 @@
 // CRC-32C of bytes, eight at a time.
+#![tactic(auto)]
+
 pub mod laws;
 pub mod running;
 pub mod sum;

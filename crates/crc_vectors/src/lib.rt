@@ -1,4 +1,6 @@
 // Published checksums: of the digits 1 to 9, and those of the iSCSI standard, each also in two slices.
+#![tactic(auto)]
+
 #[cfg(test)]
 mod tests {
     use crc::running::Crc32c;

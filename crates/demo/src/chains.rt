@@ -5,14 +5,14 @@ use journal::labels::label_volume;
 use label::geometry::Geometry;
 use label::label::Label;
 use label::position::join;
-use log::cause::LogFault;
-use log::found::Found;
-use log::labels::read_label;
-use log::seek::seek_log;
 use memory::cell::blank_cells;
 use memory::ram::Memory;
 use record::header::RecordHeader;
 use std::io;
+use volume_log::cause::LogFault;
+use volume_log::found::Found;
+use volume_log::labels::read_label;
+use volume_log::seek::seek_log;
 
 // Tells of the three logs on a volume of 64 sectors with this label.
 pub fn tell_chains(rt: &HostRuntime, label: Label) -> io::Result<()> {

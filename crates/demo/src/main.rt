@@ -1,4 +1,6 @@
 // A story in print: a volume in memory is labelled, and its label and log are read back; then logs are looked through, a torn one too.
+#![tactic(auto)]
+
 mod chains;
 mod reading;
 mod tearing;

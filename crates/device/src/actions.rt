@@ -11,8 +11,8 @@ pub fn write_range<D: Device>(
     first: u64,
     sectors: &[[u8; 512]],
 ) -> Result<(), DeviceFault>
-    ensures ran { run (writes first sectors.now) (state d.old) ≡ record { answer = result; after = state d.new } }
-    ensures kept { kept d.old d.new }
+    ensures ran { run (writes first sectors.now) (D.state d.old) ≡ record { answer = result; after = D.state d.new } }
+    ensures kept { D.kept d.old d.new }
 {
     let mut sector = first;
     for bytes in sectors {
@@ -24,8 +24,8 @@ pub fn write_range<D: Device>(
 
 // Writes `count` sectors of zeros from `first` on.
 pub fn write_zeros<D: Device>(d: &mut D, first: u64, count: u64) -> Result<(), DeviceFault>
-    ensures ran { run (zero_writes first count) (state d.old) ≡ record { answer = result; after = state d.new } }
-    ensures kept { kept d.old d.new }
+    ensures ran { run (zero_writes first count) (D.state d.old) ≡ record { answer = result; after = D.state d.new } }
+    ensures kept { D.kept d.old d.new }
 {
     let zeros = [0; 512];
     let mut at = first;

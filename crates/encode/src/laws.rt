@@ -1,6 +1,21 @@
-// The laws of numbers in bytes, in the contract of a function that does nothing.
+// The laws of numbers in bytes, in the contract of a function.
+ghost use Rattle.std.specs.Prelude.{◌≡◌};
 ghost use Rattle.codec.specs.Laws.{CodecLaws};
 
-pub fn codec_laws()
+use crate::fields::put_be32;
+use codec::fields::be32;
+
+fn hold()
     ensures { CodecLaws }
 {}
+
+// `x` put into a word and read again: the laws say that it is read at every width and place.
+pub fn codec_laws(x: u32) -> u32
+    ensures laws { CodecLaws }
+    ensures same { result ≡ x }
+{
+    hold();
+    let mut word = [0; 4];
+    put_be32(&mut word, 0, x);
+    be32(&word, 0)
+}

@@ -1,3 +1,5 @@
 // Numbers written into slices of bytes.
+#![tactic(auto)]
+
 pub mod fields;
 pub mod laws;

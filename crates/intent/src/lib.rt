@@ -1,4 +1,6 @@
 // The kind of free intents.
+#![tactic(auto)]
+
 ghost use Rattle.std.specs.Prelude.{◌≡◌, false, ◌||◌, ◌==◌};
 ghost use Rattle.item.specs.Classes.{class_of};
 ghost use Rattle.item.specs.Intent.{intent_fits, intent_meaning};

@@ -1,4 +1,6 @@
 // Items of a transaction: their regions, what they ask, kinds of items, and the sectors that they may touch.
+#![tactic(auto)]
+
 pub mod cases;
 pub mod class;
 pub mod kind;

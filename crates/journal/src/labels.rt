@@ -19,9 +19,9 @@ use label::limits::geometry_of;
 // breaks its limit, and at the first action that the device refuses. `call` says all of it as one equation; `made` says in
 // words what an accepted label leaves on each sector.
 pub fn label_volume<D: Device>(device: &mut D, label: Label) -> Result<(), Fault>
-    ensures call { label_call (state device.old) label ≡ record { answer = outcome result; device = state device.new; session = tt } }
-    ensures made { result ≡ Ok tt → Labelled label (state device.old) (state device.new) }
-    ensures kept { kept device.old device.new }
+    ensures call { label_call (D.state device.old) label ≡ record { answer = outcome result; device = D.state device.new; session = tt } }
+    ensures made { result ≡ Ok tt → Labelled label (D.state device.old) (D.state device.new) }
+    ensures kept { D.kept device.old device.new }
 {
     let Some(geometry) = geometry_of(label, device.size()) else {
         return Err(Fault::Label);
@@ -32,8 +32,8 @@ pub fn label_volume<D: Device>(device: &mut D, label: Label) -> Result<(), Fault
 
 // The actions of label.
 fn write_label<D: Device>(device: &mut D, geometry: Geometry) -> Result<(), DeviceFault>
-    ensures ran { run (label_actions geometry.label) (state device.old) ≡ record { answer = result; after = state device.new } }
-    ensures kept { kept device.old device.new }
+    ensures ran { run (label_actions geometry.label) (D.state device.old) ≡ record { answer = result; after = D.state device.new } }
+    ensures kept { D.kept device.old device.new }
 {
     device.write(0, &label_bytes(geometry.label))?;
     write_zeros(
@@ -47,16 +47,16 @@ fn write_label<D: Device>(device: &mut D, geometry: Geometry) -> Result<(), Devi
 
 // The last action: all that was written is forced.
 fn settle<D: Device>(device: &mut D) -> Result<(), DeviceFault>
-    ensures ran { run (force ∷ []) (state device.old) ≡ record { answer = result; after = state device.new } }
-    ensures kept { kept device.old device.new }
+    ensures ran { run (force ∷ []) (D.state device.old) ≡ record { answer = result; after = D.state device.new } }
+    ensures kept { D.kept device.old device.new }
 {
     device.force()
 }
 
 // The first record of a log: a clearing record at the first position of cycle 1, with no record before it.
 fn write_first<D: Device>(device: &mut D, geometry: Geometry) -> Result<(), DeviceFault>
-    ensures ran { run (first_writes geometry.label) (state device.old) ≡ record { answer = result; after = state device.new } }
-    ensures kept { kept device.old device.new }
+    ensures ran { run (first_writes geometry.label) (D.state device.old) ≡ record { answer = result; after = D.state device.new } }
+    ensures kept { D.kept device.old device.new }
 {
     let record = clearing_record(geometry, (1, 0), 0xFFFF_FFFF);
     write_range(device, geometry.label.start as u64, &record)

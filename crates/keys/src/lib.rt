@@ -1,2 +1,4 @@
 // The key that patches and cancels are found by.
+#![tactic(auto)]
+
 pub mod patch;

@@ -1,4 +1,6 @@
 // The label of a volume and the positions of its log, as functions of bytes and numbers.
+#![tactic(auto)]
+
 pub mod geometry;
 pub mod label;
 pub mod labelling;

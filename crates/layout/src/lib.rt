@@ -1,4 +1,6 @@
 // The real layout is a format of lives, and what is true in every life of a volume by the five calls, in the contracts of functions that do nothing.
+#![tactic(auto)]
+
 ghost use Rattle.layout.specs.Laws.{LayoutStands};
 ghost use Rattle.layout.specs.Lives.{LivesStand};
 ghost use Rattle.layout.specs.Example.{ExampleLives};

@@ -5,7 +5,6 @@ use journal::labels::label_volume;
 use label::geometry::Geometry;
 use label::label::Label;
 use label::position::split;
-use log::cause::LogFault;
 use memory::cell::{Cell, blank_cells};
 use memory::ram::Memory;
 use record::header::RecordHeader;
@@ -14,6 +13,7 @@ use std::test::Fail;
 use stored::heading::header_bytes;
 use stored::saved::pack;
 use stored::sum::checksum;
+use volume_log::cause::LogFault;
 
 // Sectors 32 to 63 are the log, with a window of 16 and records of at most 4096 bytes.
 const LABEL: Label = Label {

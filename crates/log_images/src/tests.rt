@@ -3,12 +3,12 @@ use crate::images::{blank, labelled, put_cycle, put_record, refused, spoil, with
 use chain::records::{data_of, read_record};
 use device::interface::Device;
 use label::geometry::Geometry;
-use log::found::Found;
-use log::labels::read_label;
-use log::seek::seek_log;
 use memory::ram::Memory;
 use std::process::Abort;
 use std::test::Fail;
+use volume_log::found::Found;
+use volume_log::labels::read_label;
+use volume_log::seek::seek_log;
 
 // What is found: greatest, head, newest, end, tail.
 fn finds(

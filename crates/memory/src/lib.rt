@@ -1,3 +1,5 @@
 // A device in memory.
+#![tactic(auto)]
+
 pub mod cell;
 pub mod ram;

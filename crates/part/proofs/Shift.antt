@@ -1,5 +1,4 @@
 -- A call on a slice is the call on the device, further on. Assumes nothing.
-use denote.Slice.{shr_slice_at}
 use Rattle.std.proofs.Common.{◌≡◌, ℕ, ◌+◌, ◌-◌, ◌<◌, min, Bool, true, false, cond, eqb, ltb, List, get_or, take, drop, set, Ok, Err, Result, sym, refl, ap, ◌∙◌, ⊎_elim, arith}
 use lib.Seq.{take-set-lt}
 use Rattle.std.proofs.lemmas.List.{get_or-take, get_or-drop, take-set-le, drop-set-lt, drop-set-add}
@@ -23,8 +22,8 @@ relabel_given : (i : ℕ) (x : Result (List ℕ) DeviceFault) (old : List ℕ) �
 relabel_given i (Ok b) old = refl
 relabel_given i (Err f) old = refl
 
-shr_slice_at : (s : DevState) (a n i : ℕ) → i < min (s.size - a) n → get_or (slice_state s a n).contents i unreadable ≡ get_or s.contents (a + i) unreadable
-shr_slice_at s a n i h = let l : i < n = omega arith in get_or-take n (drop a s.contents) i unreadable l ∙ get_or-drop a s.contents i unreadable
+at_slice : (s : DevState) (a n i : ℕ) → i < min (s.size - a) n → get_or (slice_state s a n).contents i unreadable ≡ get_or s.contents (a + i) unreadable
+at_slice s a n i h = let l : i < n = omega arith in get_or-take n (drop a s.contents) i unreadable l ∙ get_or-drop a s.contents i unreadable
 
 relabel_readable : (x : Sector) (i j : ℕ) → readable i x ≡ relabel i (readable j x)
 relabel_readable (holds b) i j = refl
@@ -34,7 +33,7 @@ relabel_readable unreadable i j = refl
 pub slice_read : (s : DevState) (a n i : ℕ) → i < min (s.size - a) n → read (slice_state s a n) i ≡ relabel i (read s (a + i))
 slice_read s a n i h =
     let l : a + i < s.size = omega arith in
-    rw (lt-ltb i (min (s.size - a) n) h, lt-ltb (a + i) s.size l, shr_slice_at s a n i h) (relabel_readable (get_or s.contents (a + i) unreadable) i (a + i))
+    rw (lt-ltb i (min (s.size - a) n) h, lt-ltb (a + i) s.size l, at_slice s a n i h) (relabel_readable (get_or s.contents (a + i) unreadable) i (a + i))
 
 pub slice_read_answer : (s : DevState) (a n i : ℕ) → i < min (s.size - a) n → read_answer (slice_state s a n) i ≡ relabel i (read_answer s (a + i))
 slice_read_answer s a n i h = ap done (slice_read s a n i h) ∙ relabel_done i (read s (a + i))

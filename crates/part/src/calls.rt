@@ -8,7 +8,7 @@ use device::interface::Device;
 
 // How many sectors a slice of `d` has.
 pub fn slice_size<D: Device>(d: &D, start: u64, count: u64) -> u64
-    ensures { result ≡ (slice_state (state d.now) start count).size }
+    ensures { result ≡ (slice_state (D.state d.now) start count).size }
 {
     d.size().saturating_sub(start).min(count)
 }
@@ -21,8 +21,8 @@ pub fn read_in_slice<D: Device>(
     sector: u64,
     out: &mut [u8; 512],
 ) -> Result<(), DeviceFault>
-    ensures answer { result ≡ read_answer (slice_state (state d.now) start count) sector }
-    ensures bytes { out.new ≡ read_bytes (slice_state (state d.now) start count) sector out.old }
+    ensures answer { result ≡ read_answer (slice_state (D.state d.now) start count) sector }
+    ensures bytes { out.new ≡ read_bytes (slice_state (D.state d.now) start count) sector out.old }
 {
     if sector >= slice_size(d, start, count) {
         return Err(DeviceFault {
@@ -47,9 +47,9 @@ pub fn write_in_slice<D: Device>(
     sector: u64,
     bytes: &[u8; 512],
 ) -> Result<(), DeviceFault>
-    ensures answer { result ≡ write_answer (slice_state (state d.old) start count) sector }
-    ensures after { state d.new ≡ slice_write (state d.old) start count sector bytes.now }
-    ensures kept { kept d.old d.new }
+    ensures answer { result ≡ write_answer (slice_state (D.state d.old) start count) sector }
+    ensures after { D.state d.new ≡ slice_write (D.state d.old) start count sector bytes.now }
+    ensures kept { D.kept d.old d.new }
 {
     if sector >= slice_size(d, start, count) {
         return Err(DeviceFault {

@@ -37,9 +37,9 @@ impl Entry for u64 {
 
 // The place of the first entry that has the key.
 pub fn find<E: Entry>(entries: &[E], key: &E::By) -> Option<usize>
-    ensures first { First (λ e. By-as-Key.same (by e) key.now) entries.now result }
-    ensures place { result ≡ place_of (λ e. By-as-Key.same (by e) key.now) entries.now }
-    ensures alike { (k : E.By) → By-as-Key.same key.now k ≡ true → result ≡ place_of (λ e. By-as-Key.same (by e) k) entries.now }
+    ensures first { First (λ e. E.By.same (E.by e) key.now) entries.now result }
+    ensures place { result ≡ place_of (λ e. E.By.same (E.by e) key.now) entries.now }
+    ensures alike { (k : E.By) → E.By.same key.now k ≡ true → result ≡ place_of (λ e. E.By.same (E.by e) k) entries.now }
 {
     for (i, e) in entries.iter().enumerate() {
         if e.by().same_as(key) {

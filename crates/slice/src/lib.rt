@@ -1,3 +1,5 @@
 // A slice of any device, owned or lent.
+#![tactic(auto)]
+
 pub mod lent_part;
 pub mod part;

@@ -1,4 +1,6 @@
 // Prints the checksum of a fixed piece of 32 KiB; with an argument, times the checksum over many such pieces.
+#![tactic(auto)]
+
 use crc::sum::{crc32c, update};
 use std::alloc::{AllocError, Global};
 use std::time::Instant;

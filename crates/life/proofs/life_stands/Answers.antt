@@ -3,4 +3,4 @@ use Rattle.life.proofs.Second.{life_stands}
 use Rattle.life.proofs.life_stands.Goals as goal
 
 pub returns : goal.returns
-returns c = life_stands
+returns c = record { answer = c.stands.ensures; lives = life_stands }

@@ -18,5 +18,5 @@ returns c =
     let k = c.args.k in
     let l : k < key.length = omega arith in
     let e : (4 * k + 4) - 4 * k ≡ 4 = omega arith in
-    ap not (c.none-set.ensures ∙ ap (λ m. none_set (map_bits c.region-at.result.now (4 * k) m)) e ∙ ap (λ (h : List ℕ). none_set (map_bits h (4 * k) 4)) c.region-at.ensures)
+    ap not (c.none_set.ensures ∙ ap (λ m. none_set (map_bits c.region_at.result.now (4 * k) m)) e ∙ ap (λ (h : List ℕ). none_set (map_bits h (4 * k) 4)) c.region_at.ensures)
     ∙ covered_in rs key (patched rs key (sym c.in-Patch.ensures)) k l

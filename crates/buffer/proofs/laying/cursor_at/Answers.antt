@@ -4,8 +4,8 @@ use Rattle.buffer.specs.declared.cursor.Cursor.{Cursor}
 use Rattle.buffer.proofs.Lays.{stepped, cursor_small}
 use Rattle.buffer.proofs.laying.cursor_at.Goals as goal
 
-pub step-past-at-requires : goal.step-past-at-requires
-step-past-at-requires c =
+pub step_past-at-requires : goal.step_past-at-requires
+step_past-at-requires c =
     let h = c.args.head.now in
     let k = c.loop-k.k in
     let s = cursor_small h k in
@@ -14,4 +14,4 @@ step-past-at-requires c =
     (omega arith, omega arith)
 
 pub loop-k-preserved : goal.loop-k-preserved
-loop-k-preserved c = stepped c.args.head.now c.loop-k.k (c.loop-k.k + 1) c.loop-k.at c.step-past-at.result c.map-bit.result refl c.loop-k.invariant c.map-bit.ensures c.step-past-at.ensures
+loop-k-preserved c = stepped c.args.head.now c.loop-k.k (c.loop-k.k + 1) c.loop-k.at c.step_past-at.result c.map_bit.result refl c.loop-k.invariant c.map_bit.ensures c.step_past-at.ensures

@@ -7,21 +7,21 @@ use Rattle.buffer.proofs.Lays.{has_room, small, stepped, turn_set, turn_clear, l
 use Rattle.buffer.proofs.laying.lay_chunks.Goals as goal
 use Rattle.buffer.proofs.laying.lay_chunks.Goals.{then-here, else-here}
 
-pub overflow-add-at : goal.overflow-add-at
-overflow-add-at c =
-    let s = small c.args.head.now c.args.n (regions c.args.bytes.now c.args.places.now) c.requires.1 c.args.k c.loop-i.i c.loop-i-test.true c.requires.0.1 c.loop-i.at c.loop-i.invariant.0 c.requires.0.0 in
+pub overflow_add-at : goal.overflow_add-at
+overflow_add-at c =
+    let s = small c.args.head.now c.args.n (regions c.args.bytes.now c.args.places.now) c.requires.places_value c.args.k c.loop-i.i c.loop-i-test.true c.requires.n_bound.1 c.loop-i.at c.loop-i.invariant.0 c.requires.n_bound.0 in
     record { fits = omega arith }
 
-pub lay-chunk-requires : goal.lay-chunk-requires
-lay-chunk-requires c = (
+pub lay_chunk-requires : goal.lay_chunk-requires
+lay_chunk-requires c = (
   c.loop-i-test.true,
-  has_room c.args.head.now c.args.n (regions c.args.bytes.now c.args.places.now) c.requires.1 c.args.k c.loop-i.i c.loop-i-test.true c.requires.0.1 c.loop-i.at c.loop-i.invariant.0
-      c.region-at.result.now (sym c.if-here.ensures) c.region-at.ensures,
+  has_room c.args.head.now c.args.n (regions c.args.bytes.now c.args.places.now) c.requires.places_value c.args.k c.loop-i.i c.loop-i-test.true c.requires.n_bound.1 c.loop-i.at c.loop-i.invariant.0
+      c.region_at.result.now (sym c.if-here.ensures) c.region_at.ensures,
 )
 
-pub step-past-at-requires : goal.step-past-at-requires
-step-past-at-requires c =
-    let s = small c.args.head.now c.args.n (regions c.args.bytes.now c.args.places.now) c.requires.1 c.args.k c.loop-i.i c.loop-i-test.true c.requires.0.1 c.loop-i.at c.loop-i.invariant.0 c.requires.0.0 in
+pub step_past-at-requires : goal.step_past-at-requires
+step_past-at-requires c =
+    let s = small c.args.head.now c.args.n (regions c.args.bytes.now c.args.places.now) c.requires.places_value c.args.k c.loop-i.i c.loop-i-test.true c.requires.n_bound.1 c.loop-i.at c.loop-i.invariant.0 c.requires.n_bound.0 in
     (omega arith, omega arith)
 
 pub loop-i-preserved : goal.loop-i-preserved
@@ -35,10 +35,10 @@ loop-i-preserved c =
     let e : 4 * k + (i + 1) ≡ 4 * k + i + 1 = omega arith in
     let laid : Laid (cover_of (cover (map_bits h 0 n) (joined (drop 1 rs))) k) c.args.sector.now c.if-here.sector (128 * (i + 1)) =
     elim c.if-here.branch [
-      | then-here w ↦ (λ j. ap (λ (xs : List ℕ). get_or xs j 0) w.sector-is ∙ turn_set h n rs c.requires.1 k i c.loop-i-test.true c.requires.0.1 at c.loop-i.invariant.0 c.args.sector.now c.loop-i.sector w.lay-chunk.new.sector w.region-at.result.now (sym w.if-here.ensures) w.region-at.ensures c.loop-i.invariant.2 w.lay-chunk.ensures.inside w.lay-chunk.ensures.before w.lay-chunk.ensures.behind j)
-      | else-here w ↦ turn_clear h n rs c.requires.1 k i c.loop-i-test.true c.requires.0.1 at c.loop-i.invariant.0 c.args.sector.now c.loop-i.sector c.if-here.sector (sym w.if-here.ensures) w.sector-is c.loop-i.invariant.2
+      | then-here w ↦ (λ j. ap (λ (xs : List ℕ). get_or xs j 0) w.sector-is ∙ turn_set h n rs c.requires.places_value k i c.loop-i-test.true c.requires.n_bound.1 at c.loop-i.invariant.0 c.args.sector.now c.loop-i.sector w.lay_chunk.new.sector w.region_at.result.now (sym w.if-here.ensures) w.region_at.ensures c.loop-i.invariant.2 w.lay_chunk.ensures.inside w.lay_chunk.ensures.before w.lay_chunk.ensures.behind j)
+      | else-here w ↦ turn_clear h n rs c.requires.places_value k i c.loop-i-test.true c.requires.n_bound.1 at c.loop-i.invariant.0 c.args.sector.now c.loop-i.sector c.if-here.sector (sym w.if-here.ensures) w.sector-is c.loop-i.invariant.2
     ] in
-    (stepped h (4 * k + i) (4 * k + (i + 1)) at c.step-past-at.result c.map-bit-here.result e c.loop-i.invariant.0 c.map-bit-here.ensures c.step-past-at.ensures, c.if-here.array_long, laid)
+    (stepped h (4 * k + i) (4 * k + (i + 1)) at c.step_past-at.result c.map_bit-here.result e c.loop-i.invariant.0 c.map_bit-here.ensures c.step_past-at.ensures, c.if-here.array_long, laid)
 
 pub returns : goal.returns
 returns c =

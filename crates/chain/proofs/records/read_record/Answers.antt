@@ -9,6 +9,6 @@ returns g c =
     let L = c.args.geometry.label in
     let some : 1 ≤ L.count = omega arith in
     record {
-      read = c.read-at.ensures;
-      stands = λ log h m. subst (Stands L log c.args.end c.args.position c.args.buffer.now) (sym c.read-at.ensures) (stands s L log c.args.end c.args.position c.args.buffer.now some h m);
+      read = c.read_at.ensures;
+      stands = λ log h m. subst (Stands L log c.args.end c.args.position c.args.buffer.now) (sym c.read_at.ensures) (stands s L log c.args.end c.args.position c.args.buffer.now some h m);
     }

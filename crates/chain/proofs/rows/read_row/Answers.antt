@@ -17,21 +17,21 @@ loop-k-preserved g c =
     let k = c.loop-k.k in
     let i = volume_sector L (x + k) in
     let out = c.read.new.out in
-    let e : read s i ≡ Ok out = read_ok (read s i) c.loop-k.sector (sym c.read.ensures.answer ∙ c.in-ok-read.was) ∙ ap Ok (sym c.read.ensures.bytes) in
+    let e : read s i ≡ Ok out = read_ok (read s i) c.loop-k.sector (sym c.read.ensures.answer ∙ c.in_ok-read.was) ∙ ap Ok (sym c.read.ensures.bytes) in
     let m : length out ≡ 512 = c.read.array_long in
     let h : 512 * (k + 1) ≤ length c.args.buffer.now = omega (arith, c.loop-k-test.true, c.requires.0) in
-    let r = row_more s L x k out c.args.buffer.now c.loop-k.buffer c.put-bytes.new.b e m c.loop-k.invariant.2 h c.loop-k.invariant.1 c.put-bytes.ensures in
+    let r = row_more s L x k out c.args.buffer.now c.loop-k.buffer c.put_bytes.new.b e m c.loop-k.invariant.2 h c.loop-k.invariant.1 c.put_bytes.ensures in
     (each_more s L x k out c.loop-k.invariant.0 e, r.0, r.1)
 
-pub returns-in-err-read : goal.returns-in-err-read
-returns-in-err-read g c =
+pub returns-in_err-read : goal.returns-in_err-read
+returns-in_err-read g c =
     let s = g.D.Device.state c.args.device.now in
     let L = c.args.geometry.label in
     let x = c.args.first in
     let k = c.loop-k.k in
     let i = volume_sector L (x + k) in
-    let p = err_from_is_err_and c.from-residual.result c.from-residual.ensures.1 in
-    let e = read_err (read s i) c.loop-k.sector _ (sym c.read.ensures.answer ∙ c.in-err-read.was) in
+    let p = err_from_is_err_and c.from_residual.result c.from_residual.ensures.1 in
+    let e = read_err (read s i) c.loop-k.sector _ (sym c.read.ensures.answer ∙ c.in_err-read.was) in
     let q = on_stop s L x c.args.sectors k _ c.loop-k-test.true c.loop-k.invariant.0 e.0 in
     record {
       answer = p.1 ∙ ap Err p.2 ∙ sym (ap told q.0);

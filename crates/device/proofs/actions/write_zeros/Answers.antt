@@ -12,19 +12,19 @@ loop-preserved g c =
     let l : c.loop.counter < length xs = simp length-replicate c.loop-test.true in
     let rest = run (writes (c.loop.at + 1) (drop (c.loop.counter + 1) xs)) s in (
       g.D.Device.joins _ _ _ c.loop.invariant.0 c.write.ensures.kept,
-      ap (λ r. then r s rest) (sym c.in-ok-write.was)
+      ap (λ r. then r s rest) (sym c.in_ok-write.was)
           ∙ turn c.loop.at c.loop.counter xs _ (g.D.Device.state c.loop.d) s c.write.result _ l (get_or-replicate c.args.count c.loop.counter (replicate 512 0) [] c.loop-test.true) c.write.ensures.answer c.write.ensures.after c.loop.invariant.1,
     )
 
-pub returns-in-err-write : goal.returns-in-err-write
-returns-in-err-write g c =
+pub returns-in_err-write : goal.returns-in_err-write
+returns-in_err-write g c =
     let s = g.D.Device.state c.write.new.self in
     let xs = replicate c.args.count (replicate 512 0) in
     let l : c.loop.counter < length xs = simp length-replicate c.loop-test.true in
-    let p = err_from_is_err_and c.from-residual.result c.from-residual.ensures.1 in
+    let p = err_from_is_err_and c.from_residual.result c.from_residual.ensures.1 in
     let t = turn c.loop.at c.loop.counter xs _ (g.D.Device.state c.loop.d) s c.write.result _ l (get_or-replicate c.args.count c.loop.counter (replicate 512 0) [] c.loop-test.true) c.write.ensures.answer c.write.ensures.after c.loop.invariant.1 in
     record {
-      ran = sym t ∙ stopped c.write.result c.from-residual.result _ p.0 s _ c.in-err-write.was p.1 p.2;
+      ran = sym t ∙ stopped c.write.result c.from_residual.result _ p.0 s _ c.in_err-write.was p.1 p.2;
       kept = g.D.Device.joins _ _ _ c.loop.invariant.0 c.write.ensures.kept;
     }
 

@@ -15,7 +15,7 @@ returns-then-n-gt0 c =
     let n = c.args.n in
     let k : at + n - at ≡ n = omega arith in
     let z : n - 0 ≡ n = omega arith in
-    ap (λ ys. put_mid at (at + n - at) b ys) (c.copy-from-slice.ensures.after ∙ ap (λ m. take m xs) z) ∙ ap (λ m. put_mid at m b (take n xs)) k
+    ap (λ ys. put_mid at (at + n - at) b ys) (c.copy_from_slice.ensures.after ∙ ap (λ m. take m xs) z) ∙ ap (λ m. put_mid at m b (take n xs)) k
     ∙ put_cut b at xs n (omega arith) c.requires
 
 pub returns-else-n-gt0 : goal.returns-else-n-gt0

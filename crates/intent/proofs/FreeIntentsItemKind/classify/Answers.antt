@@ -8,4 +8,4 @@ returns-then-places-ne1 c = not_one c.args.bytes.now c.args.places.now (omega ar
 pub returns : goal.returns
 returns c =
     let l : length c.args.places.now ≡ 1 = omega arith in
-    one c.args.bytes.now c.args.places.now c.region-at.result.now c.intent-class.result l c.region-at.ensures c.intent-class.ensures
+    one c.args.bytes.now c.args.places.now c.region_at.result.now c.intent_class.result l c.region_at.ensures c.intent_class.ensures

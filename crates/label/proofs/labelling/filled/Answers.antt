@@ -11,8 +11,8 @@ returns c =
     let m = be32_bytes c.args.most in
     let u = c.args.uuid in
     let n : length u ≡ 16 = omega arith in
-    c.put-bytes.ensures ∙ ap (λ x. put x 16 u)
-    (c.put-be32-4.ensures ∙ ap (λ x. put x 12 m)
-    (c.put-be32-3.ensures ∙ ap (λ x. put x 8 w)
-    (c.put-be32-2.ensures ∙ ap (λ x. put x 4 b) c.put-be32.ensures)))
+    c.put_bytes.ensures ∙ ap (λ x. put x 16 u)
+    (c.put_be32-4.ensures ∙ ap (λ x. put x 12 m)
+    (c.put_be32-3.ensures ∙ ap (λ x. put x 8 w)
+    (c.put_be32-2.ensures ∙ ap (λ x. put x 4 b) c.put_be32.ensures)))
     ∙ fill_at (a ++ b ++ w ++ m) u 16 496 480 refl (omega arith)

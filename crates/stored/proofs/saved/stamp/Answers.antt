@@ -14,6 +14,6 @@ returns c =
     let x = position L c.args.place.0 c.args.place.1 + 1 in
     let b = c.args.bytes.now in
     let n = whole_sectors b in
-    c.with-words.ensures ∙ ap (λ w. with_words n w b) c.cycle-words-words.ensures
-    ∙ ap (λ m. with_words n (cycle_words L x m ++ zeros (4 * (64 - m))) b) c.whole-sectors.ensures
+    c.with_words.ensures ∙ ap (λ w. with_words n w b) c.cycle_words-words.ensures
+    ∙ ap (λ m. with_words n (cycle_words L x m ++ zeros (4 * (64 - m))) b) c.whole_sectors.ensures
     ∙ words_enough n (cycle_words L x n) (zeros (4 * (64 - n))) b (omega (arith, length_cycles L x n))

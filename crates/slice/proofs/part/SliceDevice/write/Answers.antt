@@ -8,7 +8,7 @@ pub returns : goal.returns
 returns g c =
     let p = c.args.self.now in
     let s = g.D.Device.state p.inner in
-    let w = c.write-in-slice.ensures in
+    let w = c.write_in_slice.ensures in
     record {
       answer = w.answer;
       after = ap (λ t. slice_state t p.start p.count) w.after ∙ slice_written s p.start p.count c.args.sector c.args.bytes.now;

@@ -9,6 +9,6 @@ returns c =
     let l : c.args.sector < vec_len m.cells = omega arith in
     let e = sym (read_held m c.args.sector _ l c.index.ensures) in
     record {
-      answer = c.read-cell.ensures.answer ∙ ap done e;
-      bytes = c.read-cell.ensures.bytes ∙ ap (λ x. given_or x c.args.out.now) e;
+      answer = c.read_cell.ensures.answer ∙ ap done e;
+      bytes = c.read_cell.ensures.bytes ∙ ap (λ x. given_or x c.args.out.now) e;
     }

@@ -3,12 +3,12 @@ use Rattle.memory.specs.Cells.{lost_count}
 use Rattle.memory.proofs.Held.{lost_set, held_state}
 use Rattle.memory.proofs.ram.calls.MemoryDevice.write.Goals as goal
 
-pub invariant-of-self : goal.invariant-of-self
-invariant-of-self c =
+pub invariant_of-self : goal.invariant_of-self
+invariant_of-self c =
     let m = c.args.self.now in
     let h = lost_set (vec_items m.cells) c.args.sector c.args.bytes.now in
     let e : lost_count (vec_items c.hold.new.cells) ≤ 16 = rw c.hold.ensures.items (omega (arith, h, m.readable)) in
-    (omega (arith, m.few, c.hold.ensures.len), (e, (omega (arith, m.bounded), tt)))
+    record { few = omega (arith, m.few, c.hold.ensures.len); readable = e; bounded = omega (arith, m.bounded) }
 
 pub returns : goal.returns
 returns c =

@@ -1,8 +1,0 @@
-// The label and the log of a volume, read on any device: what is found in it.
-pub mod cause;
-pub mod fault;
-pub mod found;
-pub mod labels;
-mod order;
-pub mod sectors;
-pub mod seek;

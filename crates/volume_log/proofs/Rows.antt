@@ -1,0 +1,138 @@
+-- Sectors read one after the other, and the list of them. Assumes nothing.
+use Rattle.std.proofs.Common.{◌≡◌, ℕ, zero, suc, ◌+◌, ◌-◌, ◌*◌, ◌^◌, ◌<◌, ◌≤◌, max, Bool, true, false, cond, ltb, ◌⊎◌, List, [], ◌∷◌, get_or, Ok, Err, Result, sym, refl, ap, ◌∙◌, inl, inr, add-one, arith}
+use Rattle.std.proofs.lemmas.Bool.{cases_lt}
+use Rattle.device.specs.State.{DevState, Sector, holds, unreadable, sector_at, bytes_of}
+use Rattle.device.specs.Steps.{fault, readable, read, then_rest, then_read, reads}
+use Rattle.device.proofs.Reading.{reads_each}
+use Rattle.device.specs.declared.fault.Cause.TheVariants.{Beyond}
+use Rattle.device.specs.declared.fault.DeviceFault.{DeviceFault}
+use Rattle.label.specs.declared.label.Label.{Label}
+use Rattle.record.specs.Record.{held_position}
+use Rattle.model.specs.View.{held_by, greatest_of, greatest}
+use Rattle.volume_log.specs.Sectors.{sectors_of, log_of, Readable, scanned, Small}
+
+-- a value is no refusal
+pub not_both : {A B : Type 0} (r : Result A DeviceFault) (x : A) (f : DeviceFault) → r ≡ Ok x → r ≡ Err f → B
+not_both r x f p q = let e : ◌≡◌ {A = Result _ DeviceFault} (Ok x) (Err f) = sym p ∙ q in let z : ◌≡◌ {A = ℕ} 0 1 = cc in let y : ⊥ = omega arith in absurd y
+
+-- what was read is what the sector holds
+pub read_holds : (d : DevState) (i : ℕ) (b : List ℕ) → read d i ≡ Ok b → b ≡ bytes_of (sector_at d i)
+read_holds d i b e = go (ltb i d.size) (sector_at d i) e
+  where
+    go : (t : Bool) (c : Sector) → cond t (readable i c) (Err (fault Beyond i)) ≡ Ok b → b ≡ bytes_of c
+    go true (holds a) e = cc
+    go true unreadable e = not_both (Ok b) b _ refl (sym e)
+    go false c e = not_both (Ok b) b _ refl (sym e)
+
+-- the first n sectors from a on can be read
+abbrev pub Each : DevState → ℕ → ℕ → Type 0
+Each d a n = (k : ℕ) → k < n → read d (a + k) ≡ Ok (bytes_of (sector_at d (a + k)))
+
+pub each_more : (d : DevState) (a n : ℕ) (b : List ℕ) → Each d a n → read d (a + n) ≡ Ok b → Each d a (n + 1)
+each_more d a n b h e k l = elim (cases_lt k n) [ inl t ↦ h k t | inr t ↦ let q : k ≡ n = omega arith in rw q (e ∙ ap Ok (read_holds d (a + n) b e)) ]
+
+each_next : (d : DevState) (a n : ℕ) → Each d a (suc n) → Each d (a + 1) n
+each_next d a n h k l = let e : a + suc k ≡ a + 1 + k = omega arith in ap (read d) (sym e) ∙ h (suc k) (omega arith) ∙ ap (λ i. Ok (bytes_of (sector_at d i))) e
+
+each_first : (d : DevState) (a n : ℕ) → Each d a (suc n) → read d a ≡ Ok (bytes_of (sector_at d a))
+each_first d a n h = let e : a + 0 ≡ a = omega arith in ap (read d) (sym e) ∙ h 0 (omega arith) ∙ ap (λ i. Ok (bytes_of (sector_at d i))) e
+
+-- all of them are read, or the first refusal stands
+pub reads_all : (d : DevState) (a n : ℕ) → Each d a n → reads d a n ≡ Ok (sectors_of d a n)
+reads_all d a zero h = refl
+reads_all d a (suc n) h = ap (λ r. then_read r (reads d (a + 1) n)) (each_first d a n h) ∙ ap (then_rest (bytes_of (sector_at d a))) (reads_all d (a + 1) n (each_next d a n h))
+
+pub reads_stop : (d : DevState) (a n j : ℕ) (f : DeviceFault) → j < n → Each d a j → read d (a + j) ≡ Err f → reads d a n ≡ Err f
+reads_stop d a zero j f l h e = absurd (omega arith)
+reads_stop d a (suc n) zero f l h e = let z : a + 0 ≡ a = omega arith in ap (λ r. then_read r (reads d (a + 1) n)) (ap (read d) (sym z) ∙ e)
+reads_stop d a (suc n) (suc j) f l h e =
+    let z : a + suc j ≡ a + 1 + j = omega arith in
+    ap (λ r. then_read r (reads d (a + 1) n)) (each_first d a j h)
+    ∙ ap (then_rest (bytes_of (sector_at d a))) (reads_stop d (a + 1) n j f (omega arith) (each_next d a j h) (ap (read d) (sym z) ∙ e))
+
+rests : (b : List ℕ) (r : Result (List (List ℕ)) DeviceFault) (bs cs : List (List ℕ)) → ((xs : List (List ℕ)) → r ≡ Ok xs → xs ≡ cs) → then_rest b r ≡ Ok bs → bs ≡ b ∷ cs
+rests b (Ok xs) bs cs h e = let q : b ∷ xs ≡ bs = cc in sym q ∙ ap (λ y. b ∷ y) (h xs refl)
+rests b (Err f) bs cs h e = not_both (Ok bs) bs f refl (sym e)
+
+firsts : (r : Result (List ℕ) DeviceFault) (c : List ℕ) (q : Result (List (List ℕ)) DeviceFault) (bs cs : List (List ℕ)) → ((b : List ℕ) → r ≡ Ok b → b ≡ c) → ((xs : List (List ℕ)) → q ≡ Ok xs → xs ≡ cs)
+    → then_read r q ≡ Ok bs → bs ≡ c ∷ cs
+firsts (Ok b) c q bs cs h k e = rests b q bs cs k e ∙ ap (λ y. y ∷ cs) (h b refl)
+firsts (Err f) c q bs cs h k e = not_both (Ok bs) bs f refl (sym e)
+
+-- what was read is the list of the sectors
+pub reads_are : (d : DevState) (a n : ℕ) (bs : List (List ℕ)) → reads d a n ≡ Ok bs → bs ≡ sectors_of d a n
+reads_are d a zero bs e = cc
+reads_are d a (suc n) bs e = firsts (read d a) (bytes_of (sector_at d a)) (reads d (a + 1) n) bs (sectors_of d (a + 1) n) (λ b. read_holds d a b) (λ xs. reads_are d (a + 1) n xs) e
+
+-- the sector at a place of the list
+pub list_at : (d : DevState) (a n k : ℕ) → k < n → get_or (sectors_of d a n) k [] ≡ bytes_of (sector_at d (a + k))
+list_at d a zero k l = absurd (omega arith)
+list_at d a (suc n) zero l = let z : a ≡ a + 0 = omega arith in ap (λ i. bytes_of (sector_at d i)) z
+list_at d a (suc n) (suc k) l = let z : a + 1 + k ≡ a + suc k = omega arith in list_at d (a + 1) n k (omega arith) ∙ ap (λ i. bytes_of (sector_at d i)) z
+
+-- a log sector that was read is that of the list
+pub log_at : (d : DevState) (L : Label) (i : ℕ) (b : List ℕ) → i < L.count → read d (L.start + i) ≡ Ok b → b ≡ get_or (log_of d L) i []
+log_at d L i b l e = read_holds d (L.start + i) b e ∙ sym (list_at d L.start L.count i l)
+
+-- one sector more: the greater of m and what log sector i holds
+pub greatest_more : (d : DevState) (L : Label) (i m m' p : ℕ) (b : List ℕ) → i < L.count → read d (L.start + i) ≡ Ok b → m ≡ greatest_of L (log_of d L) i → p ≡ held_position L i b → m' ≡ max m p
+    → m' ≡ greatest_of L (log_of d L) (i + 1)
+greatest_more d L i m m' p b l e a h q =
+    let s : i + 1 ≡ suc i = omega arith in
+    q ∙ ap (λ x. max x p) a ∙ ap (max (greatest_of L (log_of d L) i)) (h ∙ ap (held_position L i) (log_at d L i b l e)) ∙ ap (greatest_of L (log_of d L)) (sym s)
+
+-- all sectors were looked at
+pub greatest_all : (d : DevState) (L : Label) (i m : ℕ) → i ≡ L.count → Each d L.start i → m ≡ greatest_of L (log_of d L) i → ◌≡◌ {A = Result ℕ DeviceFault} (Ok m) (scanned (reads d L.start L.count) (greatest L))
+greatest_all d L i m e h q =
+    let r : reads d L.start L.count ≡ Ok (log_of d L) = reads_all d L.start L.count (λ k l. h k (omega arith)) in
+    ap Ok (q ∙ ap (greatest_of L (log_of d L)) e) ∙ sym (ap (λ x. scanned x (greatest L)) r)
+
+-- one of them was refused
+pub greatest_stop : (d : DevState) (L : Label) (i : ℕ) (f : DeviceFault) → i < L.count → Each d L.start i → read d (L.start + i) ≡ Err f → scanned (reads d L.start L.count) (greatest L) ≡ Err f
+greatest_stop d L i f l h e = ap (λ x. scanned x (greatest L)) (reads_stop d L.start L.count i f l h e)
+
+scanned_ok : {A : Type 0} (r : Result (List (List ℕ)) DeviceFault) (f : List (List ℕ) → A) (x : A) → scanned r f ≡ Ok x → (log : List (List ℕ)) × (r ≡ Ok log) × (f log ≡ x)
+scanned_ok (Ok log) f x e = (log, refl, cc)
+scanned_ok (Err e) f x h = not_both (Ok x) x e refl (sym h)
+
+-- where a greatest position was found, the log can be read and it is that of its sectors
+pub found_greatest : (d : DevState) (L : Label) (m : ℕ) → scanned (reads d L.start L.count) (greatest L) ≡ Ok m → Readable d L × (m ≡ greatest L (log_of d L))
+found_greatest d L m e =
+    let p = scanned_ok (reads d L.start L.count) (greatest L) m e in
+    let q = reads_are d L.start L.count p.0 p.1 in
+    (p.1 ∙ ap Ok q, sym p.2 ∙ ap (greatest L) q)
+
+at_most : (L : Label) (log : List (List ℕ)) (n k : ℕ) → k < n → held_by L log k ≤ greatest_of L log n
+at_most L log zero k h = absurd (omega arith)
+at_most L log (suc n) k h =
+    elim (cases_lt k n) [ inl l ↦ omega (arith, at_most L log n k l) | inr l ↦ let e : k ≡ n = omega arith in let u : held_by L log k ≡ held_by L log n = ap (held_by L log) e in omega arith ]
+
+-- the last log sector holds count - 1 at least
+pub greatest_least : (L : Label) (log : List (List ℕ)) → 1 ≤ L.count → L.count ≤ greatest L log + 1
+greatest_least L log h = omega (arith, at_most L log L.count (L.count - 1) (omega arith))
+
+-- a sector of a log that can be read is not refused
+pub each_of : (d : DevState) (a n : ℕ) (bs : List (List ℕ)) (i : ℕ) → reads d a n ≡ Ok bs → i < n → (b : List ℕ) × (read d (a + i) ≡ Ok b)
+each_of d a n bs i e l = (get_or bs i [], (reads_each d a n bs e).1 i l)
+
+pub never : {A : Type 0} (d : DevState) (L : Label) (i : ℕ) (f : DeviceFault) → Readable d L → i < L.count → read d (L.start + i) ≡ Err f → A
+never d L i f h l e = let p = each_of d L.start L.count (log_of d L) i h l in not_both (read d (L.start + i)) p.0 f p.1 e
+
+small_is : (m : ℕ) (r : Result ℕ DeviceFault) → Small r → r ≡ Ok m → m < 2 ^ 53
+small_is m (Ok x) h e = let z : x ≡ m = cc in omega arith
+small_is m (Err f) h e = not_both (Ok m) m f refl (sym e)
+
+-- what is known of a log whose greatest position m was found
+pub record Scanned (d : DevState) (L : Label) (m : ℕ) : Type 0 where
+  pub readable : Readable d L
+  pub is : m ≡ greatest L (log_of d L)
+  pub least : L.count ≤ m + 1
+  pub small : m < 2 ^ 53
+
+pub known : (d : DevState) (L : Label) (m : ℕ) (r : Result ℕ DeviceFault) → 1 ≤ L.count → r ≡ scanned (reads d L.start L.count) (greatest L) → Small r → r ≡ Ok m → Scanned d L m
+known d L m r h a b e =
+    let p = found_greatest d L m (sym a ∙ e) in
+    record { readable = p.0; is = p.1; least = omega (arith, p.1, greatest_least L (log_of d L) h); small = small_is m r b e }
+
+pub ok_is : (r : Result ℕ DeviceFault) (x y : ℕ) → r ≡ Ok x → r ≡ Ok y → x ≡ y
+ok_is r x y a b = cc

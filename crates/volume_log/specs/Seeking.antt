@@ -1,0 +1,31 @@
+-- What is found in a log on a device. Assumes nothing.
+use Rattle.std.specs.Prelude.{ℕ, cond, List, Ok, nat_le}
+use Rattle.device.specs.State.{DevState}
+use Rattle.label.specs.declared.label.Label.{Label}
+use Rattle.label.specs.Position.{volume_sector}
+use Rattle.record.specs.declared.header.RecordHeader.{RecordHeader}
+use Rattle.record.specs.Record.{is_header, header_of, sound, end_of}
+use Rattle.model.specs.Refusals.{refusal, by_record, Outcome, ◌>>=◌, need}
+use Rattle.model.specs.View.{read_log, seek_log, tail_of, tail_stands}
+use Rattle.model.specs.View.{Found as Seen}
+use Rattle.volume_log.specs.declared.found.Found.{Found}
+use Rattle.volume_log.specs.declared.found.Look.{Look}
+use Rattle.volume_log.specs.declared.found.Look.TheVariants.{Passed, Broken, Newest}
+
+-- the numbers that are found, without the sectors
+abbrev pub numbers : Seen → Found
+numbers f = record { greatest = f.M; head = f.h; newest = f.n; end = f.e; tail = f.t }
+
+-- the log is read, then looked through
+abbrev pub found_on : DevState → Label → Outcome Found
+found_on d L = read_log d L >>= λ log. seek_log L log >>= λ f. Ok (numbers f)
+
+-- what the sector b, at position x below the head h, is on the way back to the newest record
+abbrev pub look_at : Label → ℕ → ℕ → List ℕ → Look
+look_at L h x b = cond (is_header b) (cond (sound L (header_of b) x) (cond (nat_le (end_of (header_of b) x) h) Newest Passed) Broken) Passed
+
+-- e and t by the newest record's header r
+abbrev pub ends_by : Label → ℕ → ℕ → ℕ → RecordHeader → Outcome Found
+ends_by L M h n r =
+    need (tail_stands L r M (end_of r n)) (refusal 8 by_record (volume_sector L n) 0) >>= λ _.
+    Ok (record { greatest = M; head = h; newest = n; end = end_of r n; tail = tail_of L r })
