@@ -1,12 +1,9 @@
-// A story in print: a volume in memory is labelled, and its label and log are read back; then logs are looked through, a torn one too.
+// A story in print: a volume in memory is labelled, and its label and log are read back.
 #![tactic(auto)]
 
-mod chains;
 mod reading;
-mod tearing;
 mod telling;
 
-use crate::chains::tell_chains;
 use crate::reading::tell_log;
 use crate::telling::{tell_label, tell_refusal};
 use device::interface::Device;
@@ -80,6 +77,5 @@ fn main(rt: HostRuntime) -> io::Result<()> {
     rt.println("\na window of more than half of the log:")?;
     story(&rt, 17, 1000)?;
     rt.println("\npower fails after ten actions:")?;
-    story(&rt, 16, 10)?;
-    tell_chains(&rt, label_with(16))
+    story(&rt, 16, 10)
 }
