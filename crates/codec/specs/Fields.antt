@@ -1,6 +1,6 @@
 -- Numbers and runs of bytes in lists of bytes. Assumes nothing.
 use Rattle.std.specs.Prelude.{ℕ, zero, suc, ◌+◌, ◌-◌, ◌*◌, ◌/◌, ◌%◌, ◌^◌, ◌<◌, Bool, cond, List, [], ◌∷◌, ◌++◌, take, drop, replicate, ℤ, pos, negsuc, nat_lt, slice_index, slice_set}
-use Rattle.std.specs.List.{AllByRecursion as All}
+use Rattle.std.specs.List.{AllByRecursion}
 use Rattle.std.specs.Str.{bytes_eq}
 
 -- the number of n bytes at a place, greatest byte first; a byte past the end counts as 0: be 2 (0 ∷ 1 ∷ 2 ∷ []) 1 = 258
@@ -81,7 +81,7 @@ le64_bytes = le_bytes 8
 
 -- each is a byte
 abbrev pub Bytes : List ℕ → Type 0
-Bytes b = All (λ v. v < 256) b
+Bytes b = AllByRecursion (λ v. v < 256) b
 
 -- bytes put at a place, one after the other; what would fall past the end is not written: put (1 ∷ 2 ∷ []) 1 (8 ∷ 9 ∷ []) = 1 ∷ 8 ∷ []
 abbrev pub put : List ℕ → ℕ → List ℕ → List ℕ

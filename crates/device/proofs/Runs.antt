@@ -2,7 +2,7 @@
 use Rattle.std.proofs.Common.{◌≡◌, ℕ, suc, ◌-◌, ◌<◌, ◌≤◌, Bool, true, false, cond, eqb, ltb, List, [], ◌∷◌, ◌++◌, length, Ok, Err, sym, refl, ap, ◌∙◌, subst, arith}
 use Rattle.std.proofs.lemmas.List.{get_or-set_other, length-set}
 use Rattle.std.proofs.lemmas.Bool.{lt-ltb, eq-eqb, ne_eqb}
-use Rattle.std.specs.List.{AllByRecursion as All}
+use Rattle.std.specs.List.{AllByRecursion}
 use Rattle.device.specs.State.{DevState, holds, unreadable, sector_at}
 use Rattle.device.specs.Steps.{Answer, refusal, write_step, written, force_step, forced}
 use Rattle.device.specs.Actions.{Action, write, force, answers, acts, Ran, then, run, effect}
@@ -85,7 +85,7 @@ then_keeps P (Ok u) e m h k = k
 then_keeps P (Err f) e m h k = h
 
 -- what each of the actions keeps, their run keeps, wherever it stops
-pub run_keeps : (Q : Action → Type 0) (P : DevState → Type 0) → ((x : Action) (d : DevState) → Q x → P d → P (acts x d)) → (xs : List Action) (d : DevState) → All Q xs → P d → P (run xs d).after
+pub run_keeps : (Q : Action → Type 0) (P : DevState → Type 0) → ((x : Action) (d : DevState) → Q x → P d → P (acts x d)) → (xs : List Action) (d : DevState) → AllByRecursion Q xs → P d → P (run xs d).after
 run_keeps Q P step [] d a h = h
 run_keeps Q P step (x ∷ xs) d a h =
     let k = step x d a.0 h in
@@ -117,7 +117,7 @@ sized_step : (c : DevState) (x : Action) (d : DevState) → Unit {0} → Alike c
 sized_step c (write i b) d u h = write_keeps (Alike c) d i b h (h.0, length-set d.contents i (holds b) ∙ h.1)
 sized_step c force d u h = force_keeps (Alike c) d h h
 
-all_units : (xs : List Action) → All (λ _. Unit {0}) xs
+all_units : (xs : List Action) → AllByRecursion (λ _. Unit {0}) xs
 all_units [] = tt
 all_units (x ∷ xs) = (tt, all_units xs)
 
@@ -149,8 +149,8 @@ one_less : (x : Action) (d : DevState) → ((acted x d).size ≡ d.size) × ((ac
 one_less (write i b) d = (refl, refl)
 one_less force d = (refl, refl)
 
-inside_after : (x : Action) (xs : List Action) (d : DevState) → All (Inside d.size) xs → All (Inside (acted x d).size) xs
-inside_after x xs d a = subst (λ (n : ℕ). All (Inside n) xs) (sym (one_less x d).0) a
+inside_after : (x : Action) (xs : List Action) (d : DevState) → AllByRecursion (Inside d.size) xs → AllByRecursion (Inside (acted x d).size) xs
+inside_after x xs d a = subst (λ (n : ℕ). AllByRecursion (Inside n) xs) (sym (one_less x d).0) a
 
 -- a run by its two parts
 abbrev ran : Answer → DevState → Ran
@@ -159,14 +159,14 @@ ran a d = record { answer = a; after = d }
 none_spent : (d : DevState) → d ≡ after_all [] d
 none_spent d = let e : d.actions ≡ d.actions - 0 = omega arith in ap (told [] d) e
 
-accepted : (xs : List Action) (d : DevState) → All (Inside d.size) xs → length xs ≤ d.actions → run xs d ≡ ran (Ok tt) (after_all xs d)
+accepted : (xs : List Action) (d : DevState) → AllByRecursion (Inside d.size) xs → length xs ≤ d.actions → run xs d ≡ ran (Ok tt) (after_all xs d)
 accepted [] d a h = ap (ran (Ok tt)) (none_spent d)
 accepted (x ∷ xs) d a h =
     goes x xs d a.0 (omega arith)
     ∙ accepted xs (acted x d) (inside_after x xs d a.1) (omega (arith, (one_less x d).1))
     ∙ ap (ran (Ok tt)) (all_after x xs d)
 
-refused : (front rest : List Action) (x : Action) (d : DevState) → All (Inside d.size) (front ++ (x ∷ rest)) → length front ≡ d.actions
+refused : (front rest : List Action) (x : Action) (d : DevState) → AllByRecursion (Inside d.size) (front ++ (x ∷ rest)) → length front ≡ d.actions
     → run (front ++ (x ∷ rest)) d ≡ ran (refusal Spent (sector_of x)) (after_all front d)
 refused [] rest x d a h = stops x rest d a.0 (omega arith) ∙ ap (ran (refusal Spent (sector_of x))) (none_spent d)
 refused (y ∷ front) rest x d a h =
@@ -177,7 +177,7 @@ refused (y ∷ front) rest x d a h =
 pub run_says : RunSays
 run_says d xs a = record {
   accepted = accepted xs d a;
-  refused = λ front rest x e l. ap (λ s. run s d) e ∙ refused front rest x d (subst (λ (s : List Action). All (Inside d.size) s) e a) l;
+  refused = λ front rest x e l. ap (λ s. run s d) e ∙ refused front rest x d (subst (λ (s : List Action). AllByRecursion (Inside d.size) s) e a) l;
 }
 
 pub run_laws : RunLaws

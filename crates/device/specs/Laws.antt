@@ -1,6 +1,6 @@
 -- What is true of every run of actions, and of reading sectors in a row. Assumes nothing.
 use Rattle.std.specs.Prelude.{◌≡◌, ℕ, ◌+◌, ◌-◌, ◌<◌, ◌≤◌, Bool, true, false, List, [], ◌∷◌, ◌++◌, length, Ok, Err, slice_index_or}
-use Rattle.std.specs.List.{AllByRecursion as All}
+use Rattle.std.specs.List.{AllByRecursion}
 use Rattle.device.specs.State.{DevState, sector_at}
 use Rattle.device.specs.Steps.{refusal, read, reads}
 use Rattle.device.specs.Actions.{Action, write, force, answers, acts, then, run, effect}
@@ -35,7 +35,7 @@ Leaves i force = Unit {0}
 
 -- a run changes only sectors that it writes
 abbrev pub RunLeaves : Type 0
-RunLeaves = (xs : List Action) (d : DevState) (i : ℕ) → All (Leaves i) xs → sector_at (run xs d).after i ≡ sector_at d i
+RunLeaves = (xs : List Action) (d : DevState) (i : ℕ) → AllByRecursion (Leaves i) xs → sector_at (run xs d).after i ≡ sector_at d i
 
 -- a run changes no size
 abbrev pub RunSized : Type 0
@@ -69,7 +69,7 @@ pub record Runs (d : DevState) (xs : List Action) : Type 0 where
 
 -- so it is for all actions that lie on the device
 abbrev pub RunSays : Type 0
-RunSays = (d : DevState) (xs : List Action) → All (Inside d.size) xs → Runs d xs
+RunSays = (d : DevState) (xs : List Action) → AllByRecursion (Inside d.size) xs → Runs d xs
 
 -- the laws of runs
 pub record RunLaws : Type 0 where

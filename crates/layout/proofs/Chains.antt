@@ -1,6 +1,6 @@
 -- A chain that stands is read. Assumes nothing.
 use Rattle.std.proofs.Common.{◌≡◌, ℕ, zero, suc, ◌+◌, ◌-◌, ◌<◌, ◌≤◌, Bool, true, false, cond, leb, ◌⊎◌, List, [], ◌∷◌, ◌++◌, map, length, get_or, Ok, Err, sym, refl, ap, ◌∙◌, subst, inl, inr, arith}
-use Rattle.std.specs.List.{AllByRecursion as All}
+use Rattle.std.specs.List.{AllByRecursion}
 use Rattle.std.proofs.lemmas.Bool.{cond-true, cond-false, le-leb, lt-leb, eqb-true}
 use Rattle.std.proofs.lemmas.List.{nil_from_length}
 use Rattle.device.specs.State.{DevState, sector_at}
@@ -142,16 +142,16 @@ module _ (L : Label) (n : ℕ) (bank : Bank) (u : Usable L n) (d : DevState) (lo
 
 module _ (L : Label) (n : ℕ) (bank : Bank) (u : Usable L n) where
   -- what transactions ask, from their regions and from what was found
-  pub asked_all : (xs : List Transaction) → All (Told bank) xs → asked (all_items xs) ≡ format.all_items (real L n bank u) (map (λ x. x.regions) xs)
+  pub asked_all : (xs : List Transaction) → AllByRecursion (Told bank) xs → asked (all_items xs) ≡ format.all_items (real L n bank u) (map (λ x. x.regions) xs)
   asked_all [] t = refl
   asked_all (x ∷ xs) t =
       asked_joins x.items (all_items xs) ∙ ap (λ l. l ++ asked (all_items xs)) (sym t.0) ∙ ap (λ l. items bank x.regions ++ l) (asked_all xs t.1)
 
-  cleared_all : (d : DevState) (same : d.size ≡ n) (full : Full d) (xs : List Transaction) → All (Told bank) xs → All (Clear d n L same full bank) xs →
+  cleared_all : (d : DevState) (same : d.size ≡ n) (full : Full d) (xs : List Transaction) → AllByRecursion (Told bank) xs → AllByRecursion (Clear d n L same full bank) xs →
       Readable (sector_at d) (format.all_items (real L n bank u) (map (λ x. x.regions) xs))
   cleared_all d same full [] t a = tt
   cleared_all d same full (x ∷ xs) t a =
-      let P : life.Item → Type 0 = λ i. All (λ k. Whole (sector_at d k)) (life.covered i) in
+      let P : life.Item → Type 0 = λ i. AllByRecursion (λ k. Whole (sector_at d k)) (life.covered i) in
       let rest : List life.Item = format.all_items (real L n bank u) (map (λ (y : Transaction). y.regions) xs) in
       all_both P (items bank x.regions) rest (subst (λ (l : List life.Item). Readable (sector_at d) l) (sym t.0) a.0) (cleared_all d same full xs t.1 a.1)
 
@@ -159,10 +159,10 @@ module _ (L : Label) (n : ℕ) (bank : Bank) (u : Usable L n) where
   chain_reads d f chain same full has P w =
       let s : Progress = progress n L bank chain unread in
       let v = progress_long n L bank chain unread in
-      let t : All (Told bank) s.reading.done = subst (λ (x : List Transaction). All (Told bank) x) (sym v.1) v.2 in
+      let t : AllByRecursion (Told bank) s.reading.done = subst (λ (x : List Transaction). AllByRecursion (Told bank) x) (sym v.1) v.2 in
       go t (chain_on L n bank u d f.log same full has chain f.t f.e (f.e - f.t) unread [] P.chained (omega (arith, P.before)) refl w refl)
     where
-      go : All (Told bank) (progress n L bank chain unread).reading.done →
+      go : AllByRecursion (Told bank) (progress n L bank chain unread).reading.done →
           Comes d n L same full bank (read_chain d L bank f) begun (progress n L bank chain unread).reading →
           ((r : Reading) × (read_chain d L bank f ≡ Ok r) × ChainRead L n bank (real L n bank u) chain r × Readable (sector_at d) (chain_items (real L n bank u) chain)) ⊎ Three (read_chain d L bank f)
       go t (inl k) =

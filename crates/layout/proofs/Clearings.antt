@@ -11,7 +11,7 @@ use Rattle.model.specs.Refusals.{refusal, by_record, by_session, Outcome, ◌>>=
 use Rattle.model.specs.View.{Found}
 use Rattle.model.specs.Reading.{Reading, read_chain}
 use Rattle.model.specs.Lay.{record_writes}
-use Rattle.model.specs.Calls.{Session, Plan, clearing, patches, sought, worn_out, same_label, same_log, cleared, clear_plan}
+use Rattle.model.specs.Calls.{Session, Plan, clearing, patches, searched, worn_out, same_label, same_log, cleared, clear_plan}
 use Rattle.model.proofs.Outcomes.{need_ok, bind_ok}
 use Rattle.life.specs.Format.{Rec, Fits}
 use Rattle.life.specs.Calls as life
@@ -43,7 +43,7 @@ pub record Planned (d : DevState) (s : Session) (bank : Bank) (f : Found) (p : P
     session = cleared s;
   }
 
-pub clear_says : (d : DevState) (s : Session) (bank : Bank) (work : ℕ) (f : Found) (p : Plan (Unit {0}) Session) → sought d ≡ Ok (s.label, f) →
+pub clear_says : (d : DevState) (s : Session) (bank : Bank) (work : ℕ) (f : Found) (p : Plan (Unit {0}) Session) → searched d ≡ Ok (s.label, f) →
     clear_plan d s bank work ≡ Ok p → Planned d s bank f p
 clear_says d s bank work f p found e =
     let O : Type 0 = Outcome (Plan (Unit {0}) Session) in
@@ -54,7 +54,7 @@ clear_says d s bank work f p found e =
     } in
     let K₅ : Label → Found → Unit {0} → O = λ L f _. read_chain d L bank f >>= λ r. Ok (P r) in
     let K₄ : Label × Found → O = λ x. need (same_log s x.0 x.1) (refusal 8 by_record 0 0) >>= K₅ x.0 x.1 in
-    let K₃ : Unit {0} → O = λ _. sought d >>= K₄ in
+    let K₃ : Unit {0} → O = λ _. searched d >>= K₄ in
     let K₂ : Unit {0} → O = λ _. need (leb (s.e + 2) (s.t + s.label.count)) (refusal 17 by_session 0 0) >>= K₃ in
     let K₁ : Unit {0} → O = λ _. need (not (worn_out s.label (s.e + 1))) (refusal 19 by_session 0 0) >>= K₂ in
     let K₀ : Unit {0} → O = λ _. need (eqb (length s.book.intents) 0) (refusal 18 by_session 0 0) >>= K₁ in
@@ -128,13 +128,13 @@ module _ (n : ℕ) (bank : Bank) (d : DevState) (s : Session) (u : Usable s.labe
 -- with any session that matches
 module _ (L : Label) (n : ℕ) (bank : Bank) (u : Usable L n) where
   pub clear_step : (d : DevState) (s : Session) (s' : life.Session) (work : ℕ) (f : Found) (p : Plan (Unit {0}) Session) →
-      Matches L n bank s s' → life.Steady (real L n bank u) s' → s.book.intents ≡ life.book_ids (real L n bank u) s' → sought d ≡ Ok (L, f) →
+      Matches L n bank s s' → life.Steady (real L n bank u) s' → s.book.intents ≡ life.book_ids (real L n bank u) s' → searched d ≡ Ok (L, f) →
       clear_plan d s bank work ≡ Ok p → ClearSteps L n bank u d s.newest s' f p
   clear_step d s s' work f p m steady ids found e =
       let z : life.Session = record { e = s.e; t = s.t; a = s.a; newest = s'.newest; chain = s'.chain } in
       let q : z ≡ s' = λ i. record { e = m.e i; t = m.t i; a = m.a i; newest = s'.newest; chain = s'.chain } in
       let P : life.Session → Type 0 = λ y. life.Steady (real L n bank u) y → s.book.intents ≡ life.book_ids (real L n bank u) y → ClearSteps L n bank u d s.newest y f p in
-      let Q : Label → Type 0 = λ K. (v : Usable K n) → s.newest ≡ log_sector K s'.newest → sought d ≡ Ok (K, f) →
+      let Q : Label → Type 0 = λ K. (v : Usable K n) → s.newest ≡ log_sector K s'.newest → searched d ≡ Ok (K, f) →
       life.Steady (real K n bank v) z → s.book.intents ≡ life.book_ids (real K n bank v) z → ClearSteps K n bank v d s.newest z f p in
       let here : Q s.label = λ v near found w ids. step_here n bank d s v s'.newest s'.chain near w ids f p (clear_says d s bank work f p found e) in
       subst P q (subst Q m.label here u m.newest found) steady ids

@@ -1,6 +1,6 @@
 -- A commit that its checks accept is a step of a life. Assumes nothing.
 use Rattle.std.proofs.Common.{◌≡◌, ℕ, suc, ◌+◌, ◌-◌, ◌*◌, ◌≤◌, true, List, [], ◌∷◌, ◌++◌, map, length, Ok, sym, refl, ap, ◌∙◌, subst, mod-lt, arith, lit≤}
-use Rattle.std.specs.List.{AllByRecursion as All}
+use Rattle.std.specs.List.{AllByRecursion}
 use Rattle.std.proofs.lemmas.List.{map-append, get_or-replicate}
 use Rattle.std.proofs.lemmas.Bool.{cond-true}
 use Rattle.codec.specs.Fields.{Bytes, zeros}
@@ -103,11 +103,11 @@ module _ (n : ℕ) (bank : Bank) (whole : WholeBank bank) (d : DevState) (same :
       again byte =
           checks_again d (clean n) s.label bank rs (volume_sector s.label s.e) 0 byte is s.book book same (clean_readable n) K.framed K.checked
 
-      sound_here : All (life.Sound (real s.label n bank u)) (items bank rs)
+      sound_here : AllByRecursion (life.Sound (real s.label n bank u)) (items bank rs)
       sound_here =
           let A = again 0 in
           let q : items bank rs ≡ asked (meanings bank (replay_order bank is)) = ap (asked_by bank) A.1 ∙ ap asked A.3 in
-          subst (λ l. All (life.Sound (real s.label n bank u)) l) (sym q) (checked_sound s.label n bank u whole d same (replay_order bank is) s.book book K.checked)
+          subst (λ l. AllByRecursion (life.Sound (real s.label n bank u)) l) (sym q) (checked_sound s.label n bank u whole d same (replay_order bank is) s.book book K.checked)
 
       abbrev after : List Item → Reading
       after js =

@@ -12,11 +12,11 @@ use Rattle.label.specs.Position.{log_sector, volume_sector}
 use Rattle.label.proofs.Back.{label_laws}
 use Rattle.item.specs.Meaning.{Meaning, Bank}
 use Rattle.model.specs.Refusals.{Refusal, refusal, by_session, Outcome, ◌>>=◌, need, from_device}
-use Rattle.model.specs.View.{read_label, read_log, seek_log, Found}
+use Rattle.model.specs.View.{read_label, read_log, search_log, Found}
 use Rattle.model.specs.Items.{Patch, applied, skipped}
 use Rattle.model.specs.Reading.{Transaction, Reading, read_chain, all_items}
 use Rattle.model.specs.Lay.{lays, blanks}
-use Rattle.model.specs.Calls.{Session, Plan, Counts, Passed, sought, pass_one, counts, patches, replay_plan}
+use Rattle.model.specs.Calls.{Session, Plan, Counts, Passed, searched, pass_one, counts, patches, replay_plan}
 use Rattle.life.specs.Disk.{Whole}
 use Rattle.life.specs.Items.{open_ids}
 use Rattle.life.specs.Items as life
@@ -87,10 +87,10 @@ module _ (L : Label) (n : ℕ) (bank : Bank) (u : Usable L n) (d : DevState) (sa
   abbrev pub finding : Found
   finding = record { log = log_read.0; M = found.m; h = found.h; n = found.n; e = found.e; t = found.t }
 
-  pub sought_here : sought d ≡ Ok (L, finding)
+  pub sought_here : searched d ≡ Ok (L, finding)
   sought_here =
-      ap (λ x. x >>= λ K. read_log d K >>= λ log. seek_log K log >>= λ f. Ok (K, f)) label_read
-      ∙ ap (λ x. x >>= λ log. seek_log L log >>= λ f. Ok (L, f)) log_read.1
+      ap (λ x. x >>= λ K. read_log d K >>= λ log. search_log K log >>= λ f. Ok (K, f)) label_read
+      ∙ ap (λ x. x >>= λ log. search_log L log >>= λ f. Ok (L, f)) log_read.1
       ∙ ap (λ x. x >>= λ f. Ok (L, f))
       (seek_plans L n bank u (sector_at d) log_read.0 found.m found.h found.n found.e found.t found.chain log_read.2 found.plan)
 

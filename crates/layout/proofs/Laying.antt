@@ -1,6 +1,6 @@
 -- What replay lays, in the words of lives. Assumes nothing.
 use Rattle.std.proofs.Common.{◌≡◌, ℕ, ◌+◌, ◌<◌, ◌≤◌, Bool, true, false, cond, ◌⊎◌, List, [], ◌∷◌, ◌++◌, map, length, get_or, set, Option, sym, refl, ap, ◌∙◌, subst, inl, inr, arith}
-use Rattle.std.specs.List.{AllByRecursion as All}
+use Rattle.std.specs.List.{AllByRecursion}
 use Rattle.std.proofs.lemmas.List.{length-set, get_or_past}
 use Rattle.std.proofs.lemmas.Bool.{cases_lt}
 use Rattle.device.specs.State.{Sector, holds, unreadable, bytes_of}
@@ -46,12 +46,12 @@ whole_short : (s : Sector) → Whole s → length (bytes_of s) ≤ 512
 whole_short s (b, e, n) = let m : length (bytes_of s) ≡ length b = ap (λ z. length (bytes_of z)) e in omega (arith, m, n)
 
 -- what each of a mapped list has
-all_back : (P : ℕ → Type 0) (f : ℕ → ℕ) (l : List ℕ) → All P (map f l) → All (λ j. P (f j)) l
+all_back : (P : ℕ → Type 0) (f : ℕ → ℕ) (l : List ℕ) → AllByRecursion P (map f l) → AllByRecursion (λ j. P (f j)) l
 all_back P f [] a = tt
 all_back P f (j ∷ l) a = (a.0, all_back P f l a.1)
 
 -- the writes of a patch lie on the device
-secs_inside : (f : ℕ → Option ℕ) (l : List ℕ) (c : List Sector) → All (λ i. Whole (seen c i)) l → Writes (λ i s. i < length c) (calls.patch_writes f l (seen c))
+secs_inside : (f : ℕ → Option ℕ) (l : List ℕ) (c : List Sector) → AllByRecursion (λ i. Whole (seen c i)) l → Writes (λ i s. i < length c) (calls.patch_writes f l (seen c))
 secs_inside f [] c a = tt
 secs_inside f (i ∷ l) c a = (whole_inside c i a.0, secs_inside f l c a.1)
 
@@ -61,7 +61,7 @@ patches_same [] c r = refl
 patches_same (p ∷ ps) c r =
     let js : List ℕ = covered_from p.cover 0 p.key.length in
     let l : List ℕ = covered p.key p.cover in
-    let a : All (λ j. Whole (seen c (start_of p + j))) js = all_back (λ i. Whole (seen c i)) (λ j. start_of p + j) js r.0 in
+    let a : AllByRecursion (λ j. Whole (seen c (start_of p + j))) js = all_back (λ i. Whole (seen c i)) (λ j. start_of p + j) js r.0 in
     let same : patch_writes p c ≡ calls.patch_writes (given p) l (seen c) =
     patch_same p c js (all_map (λ j. Whole (seen c (start_of p + j))) (λ j. length (bytes_of (seen c (start_of p + j))) ≤ 512) js (λ j w. whole_short (seen c (start_of p + j)) w) a) in
     let ws : List Action = calls.patch_writes (given p) l (seen c) in

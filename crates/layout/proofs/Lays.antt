@@ -1,6 +1,6 @@
 -- What replay and clear write, in the words of lives. Assumes nothing.
 use Rattle.std.proofs.Common.{◌≡◌, ℕ, zero, suc, ◌+◌, ◌-◌, ◌*◌, ◌<◌, ◌≤◌, Bool, true, false, cond, ◌&&◌, ◌||◌, eqb, leb, List, [], ◌∷◌, ◌++◌, map, length, get_or, take, drop, ℤ, pos, negsuc, Some, None, Option, sym, refl, ap, ◌∙◌, arith}
-use Rattle.std.specs.List.{AllByRecursion as All}
+use Rattle.std.specs.List.{AllByRecursion}
 use Rattle.std.proofs.lemmas.List.{get_or-take, get_or-drop}
 use Rattle.std.proofs.lemmas.Bool.{cond-true, le-leb}
 use Rattle.device.specs.State.{Sector, holds, unreadable, bytes_of}
@@ -111,7 +111,7 @@ bytes_same : (s : Sector) → calls.bytes_of s ≡ bytes_of s
 bytes_same (holds b) = refl
 bytes_same unreadable = refl
 
-pub patch_same : (p : Patch) (c : List Sector) (js : List ℕ) → All (λ j. length (bytes_of (get_or c (start_of p + j) unreadable)) ≤ 512) js →
+pub patch_same : (p : Patch) (c : List Sector) (js : List ℕ) → AllByRecursion (λ j. length (bytes_of (get_or c (start_of p + j) unreadable)) ≤ 512) js →
     map (patch_write p c) js ≡ calls.patch_writes (given p) (map (λ j. start_of p + j) js) (λ i. get_or c i unreadable)
 patch_same p c [] a = refl
 patch_same p c (j ∷ js) a =

@@ -1,7 +1,7 @@
 -- A reading that goes on keeps what it has. Assumes nothing.
 use Rattle.std.proofs.Common.{◌≡◌, ℕ, zero, suc, Bool, true, false, cond, not, eqb, ltb, List, [], ◌∷◌, ◌++◌, map, length, drop, set, Some, None, Ok, Err, Option, sym, refl, ap, ◌∙◌, subst, arith}
 use mathlib.Core.Bool.{beq}
-use Rattle.std.specs.List.{AllByRecursion as All}
+use Rattle.std.specs.List.{AllByRecursion}
 use Rattle.std.proofs.lemmas.List.{append-nil, append_assoc, map-append}
 use Rattle.std.proofs.ByRecursion.{All-append}
 use Rattle.device.specs.State.{DevState}
@@ -20,7 +20,7 @@ use Rattle.layout.proofs.Items.{Told, told}
 
 -- the transactions of r are the first ones of r', and the others ask what they were found to mean
 abbrev pub Longer : Bank → Reading → Reading → Type 0
-Longer bank r r' = (w : List Transaction) × (r'.done ≡ r.done ++ w) × All (Told bank) w
+Longer bank r r' = (w : List Transaction) × (r'.done ≡ r.done ++ w) × AllByRecursion (Told bank) w
 
 -- the same ones
 same_long : (bank : Bank) (r r' : Reading) → r'.done ≡ r.done → Longer bank r r'

@@ -1,7 +1,7 @@
 -- A record's ops read at its place are those read at no place. Assumes nothing.
 use Rattle.std.proofs.Common.{◌≡◌, ℕ, zero, suc, ◌+◌, Bool, true, false, cond, not, ◌&&◌, ◌||◌, eqb, ltb, leb, ◌⊎◌, List, [], ◌∷◌, ◌++◌, map, length, get_or, drop, set, Some, None, Ok, Err, Option, sym, refl, ap, ◌∙◌, subst, inl, inr, arith}
 use mathlib.Core.Bool.{beq}
-use Rattle.std.specs.List.{AllByRecursion as All}
+use Rattle.std.specs.List.{AllByRecursion}
 use Rattle.std.proofs.lemmas.List.{map-append, length-map}
 use Rattle.codec.specs.Fields.{be32, part, le32}
 use Rattle.device.specs.State.{DevState, Sector, sector_at, holds, unreadable}
@@ -120,7 +120,7 @@ three_same : {A : Type 0} (m m' : Outcome A) → m ≡ m' → Three m' → Three
 three_same m m' e t = (t.0, e ∙ t.1, t.2)
 
 reads_either : (d : DevState) (n : ℕ) → d.size ≡ n → Full d → (is : List ℕ) → all_readable (clean n) is ≡ Ok tt →
-    ((all_readable d is ≡ Ok tt) × All (λ i. Whole (sector_at d i)) is) ⊎ Three (all_readable d is)
+    ((all_readable d is ≡ Ok tt) × AllByRecursion (λ i. Whole (sector_at d i)) is) ⊎ Three (all_readable d is)
 reads_either d n q full [] e = inl (refl, tt)
 reads_either d n q full (i ∷ is) e =
     let x = bind_ok (from_device (read (clean n) i)) (λ _. all_readable (clean n) is) tt e in
@@ -136,13 +136,13 @@ reads_either d n q full (i ∷ is) e =
     N : List ℕ → Outcome (Unit {0})
     N _ = all_readable d is
 
-    next : (b : List ℕ) → sector_at d i ≡ holds b → read d i ≡ Ok b → ((all_readable d is ≡ Ok tt) × All (λ i. Whole (sector_at d i)) is) ⊎ Three (all_readable d is) →
-        ((all_readable d (i ∷ is) ≡ Ok tt) × All (λ i. Whole (sector_at d i)) (i ∷ is)) ⊎ Three (all_readable d (i ∷ is))
+    next : (b : List ℕ) → sector_at d i ≡ holds b → read d i ≡ Ok b → ((all_readable d is ≡ Ok tt) × AllByRecursion (λ i. Whole (sector_at d i)) is) ⊎ Three (all_readable d is) →
+        ((all_readable d (i ∷ is) ≡ Ok tt) × AllByRecursion (λ i. Whole (sector_at d i)) (i ∷ is)) ⊎ Three (all_readable d (i ∷ is))
     next b h r (inl a) = inl (ap (λ z. from_device z >>= λ _. all_readable d is) r ∙ a.0, ((b, h, full i b h), a.1))
     next b h r (inr a) = inr (a.0, ap (λ z. from_device z >>= λ _. all_readable d is) r ∙ a.1, a.2)
 
-    go : (s : Sector) → sector_at d i ≡ s → read d i ≡ readable i (sector_at d i) → ((all_readable d is ≡ Ok tt) × All (λ i. Whole (sector_at d i)) is) ⊎ Three (all_readable d is) →
-        ((all_readable d (i ∷ is) ≡ Ok tt) × All (λ i. Whole (sector_at d i)) (i ∷ is)) ⊎ Three (all_readable d (i ∷ is))
+    go : (s : Sector) → sector_at d i ≡ s → read d i ≡ readable i (sector_at d i) → ((all_readable d is ≡ Ok tt) × AllByRecursion (λ i. Whole (sector_at d i)) is) ⊎ Three (all_readable d is) →
+        ((all_readable d (i ∷ is) ≡ Ok tt) × AllByRecursion (λ i. Whole (sector_at d i)) (i ∷ is)) ⊎ Three (all_readable d (i ∷ is))
     go (holds b) h r a = next b h (r ∙ ap (readable i) h) a
     go unreadable h r a =
         inr (device_refusal (fault Unreadable i), ap (λ z. from_device z >>= λ _. all_readable d is) (r ∙ ap (readable i) h), refl)
@@ -165,7 +165,7 @@ module _ (d : DevState) (n : ℕ) (L : Label) (same : d.size ≡ n) (full : Full
       go f x.2 (reads_either d n same full (covered k c) x.1)
     where
       go : check reading d L s y (means early (patch k c)) b ≡ (all_readable d (covered k c) >>= λ _. Ok b) → ◌≡◌ {A = Outcome Book} (Ok b) (Ok b') →
-          ((all_readable d (covered k c) ≡ Ok tt) × All (λ i. Whole (sector_at d i)) (covered k c)) ⊎ Three (all_readable d (covered k c)) →
+          ((all_readable d (covered k c) ≡ Ok tt) × AllByRecursion (λ i. Whole (sector_at d i)) (covered k c)) ⊎ Three (all_readable d (covered k c)) →
           Checks (means early (patch k c)) (check reading d L s y (means early (patch k c)) b) b'
       go f g (inl a) = inl (f ∙ ap (λ z. z >>= λ _. Ok b) a.0 ∙ g, (a.1, tt))
       go f g (inr a) = inr (three_same (check reading d L s y (means early (patch k c)) b) (all_readable d (covered k c) >>= λ _. Ok b) f
@@ -241,15 +241,15 @@ module _ (d : DevState) (n : ℕ) (L : Label) (same : d.size ≡ n) (full : Full
     -- where r has become q on a clean volume, m is q but for places, and what its transactions cover can be read if that is so of r; or m is refused because a
     -- covered sector cannot be read
     abbrev pub Comes : Outcome Reading → Reading → Reading → Type 0
-    Comes m r q = (On m q × (All Clear r.done → All Clear q.done)) ⊎ Three m
+    Comes m r q = (On m q × (AllByRecursion Clear r.done → AllByRecursion Clear q.done)) ⊎ Three m
 
     saw_on : (o o' : Op) (p : List Open) (r : Reading) (os : List Op) (q : Reading) → bare o ≡ bare o' → map bare os ≡ map bare r.seen →
-        ◌≡◌ {A = Outcome Reading} (Ok (saw o' p r)) (Ok q) → On (Ok (saw o p (dressed r os))) q × (All Clear r.done → All Clear q.done)
+        ◌≡◌ {A = Outcome Reading} (Ok (saw o' p r)) (Ok q) → On (Ok (saw o p (dressed r os))) q × (AllByRecursion Clear r.done → AllByRecursion Clear q.done)
     saw_on o o' p r os q f g e =
         let w : saw o' p r ≡ q = ok_same (saw o' p r) q e in (
           subst (λ (z : Reading). On (Ok (saw o p (dressed r os))) z) w
               (os ++ (o ∷ []), refl, map-append bare os (o ∷ []) ∙ ap (λ l. l ++ (bare o ∷ [])) g ∙ ap (λ x. map bare r.seen ++ (x ∷ [])) f ∙ sym (map-append bare r.seen (o' ∷ []))),
-          λ a. subst (λ (z : Reading). All Clear z.done) w a,
+          λ a. subst (λ (z : Reading). AllByRecursion Clear z.done) w a,
         )
 
     committed_on : (o o' : Op) (rs rs' : List Region) (r : Reading) (os : List Op) (q : Reading) → bare o ≡ bare o' → map (λ x. x.bytes) rs ≡ map (λ x. x.bytes) rs' →
@@ -301,7 +301,7 @@ module _ (d : DevState) (n : ℕ) (L : Label) (same : d.size ≡ n) (full : Full
                     ∙ ap (λ l. Ok (D (map (λ (x : Region). x.bytes) (drop 1 rs')) l os)) m,
                 h,
               ),
-              λ a. subst (λ (z : Reading). All Clear z.done) w (all_both Clear r.done X a (k.1, tt)),
+              λ a. subst (λ (z : Reading). AllByRecursion Clear z.done) w (all_both Clear r.done X a (k.1, tt)),
             )
         go js is b w g' m K (inr k) =
             inr (three_same (committed d L bank o rs (dressed r os)) (check_all reading d L bank (replay_order bank is) r.book >>= λ b. Ok (joins bank (drop 1 rs) (replay_order bank is) b (dressed r os))) K
@@ -384,7 +384,7 @@ module _ (d : DevState) (n : ℕ) (L : Label) (same : d.size ≡ n) (full : Full
         read_ops (clean n) L bank 0 b from k r ≡ Ok q → Comes (read_ops d L bank s b from k (dressed r os)) r q
     ops_on s b from zero r os q g e =
         let w : r ≡ q = ok_same r q e in
-        inl (subst (λ (z : Reading). On (Ok (dressed r os)) z) w (os, refl, g), λ a. subst (λ (z : Reading). All Clear z.done) w a)
+        inl (subst (λ (z : Reading). On (Ok (dressed r os)) z) w (os, refl, g), λ a. subst (λ (z : Reading). AllByRecursion Clear z.done) w a)
     ops_on s b from (suc k) r os q g e =
         let B : Op → Reading → Outcome Reading = λ o z. read_ops (clean n) L bank 0 b (after_op o) k z in
         let x = bind_ok (op_at 0 b from) (λ o. step (clean n) L bank o r >>= B o) q e in

@@ -7,7 +7,7 @@ use Rattle.label.specs.Position.{cycle, log_sector, volume_sector}
 use Rattle.record.specs.Record.{is_header, held_cycle, held_position, header_of, end_of}
 use Rattle.record.specs.Record as records
 use Rattle.item.specs.Meaning.{Bank}
-use Rattle.model.specs.View.{at, log_header, tail_of, held, held_by, Found, seek_log}
+use Rattle.model.specs.View.{at, log_header, tail_of, held, held_by, Found, search_log}
 use Rattle.model.specs.Laws.{Searched}
 use Rattle.model.proofs.Stamped.{cycle_low}
 use Rattle.model.proofs.Finds.{search_finds}
@@ -167,7 +167,7 @@ module _ (L : Label) (n : ℕ) (bank : Bank) (u : Usable L n) (c : ℕ → Secto
           before = P.before;
         }
 
-    searched : seek_log L logs ≡ Ok found
+    searched : search_log L logs ≡ Ok found
     searched = search_finds L found (omega (arith, (limited L n u).room)) (limited L n u).half words low_here tail_here
 
 pub seek_plans : (L : Label) (n : ℕ) (bank : Bank) (u : Usable L n) → SeekPlans L (real L n bank u)

@@ -1,6 +1,6 @@
 -- A life by the calls, shown as a life over the real layout. Assumes nothing.
 use Rattle.std.proofs.Common.{◌≡◌, ℕ, ◌+◌, ◌-◌, ◌<◌, ◌≤◌, Bool, true, false, cond, ◌⊎◌, List, [], ◌∷◌, ◌++◌, length, get_or, Some, None, Ok, Err, Option, sym, refl, ap, ◌∙◌, subst, inl, inr, arith}
-use Rattle.std.specs.List.{AllByRecursion as All}
+use Rattle.std.specs.List.{AllByRecursion}
 use Rattle.device.specs.State.{DevState, Sector, sector_at, holds, unreadable}
 use Rattle.device.specs.Steps.{Answer}
 use Rattle.device.specs.Actions.{Action, force, run}
@@ -80,7 +80,7 @@ module _ (L : Label) (n : ℕ) (bank : Bank) (u : Usable L n) where
   book_listed s s' m =
       let q : Reading = (progress n L bank s'.chain unread).reading in
       let v = progress_long n L bank s'.chain unread in
-      let t : All (Told bank) q.done = subst (λ (x : List Transaction). All (Told bank) x) (sym v.1) v.2 in
+      let t : AllByRecursion (Told bank) q.done = subst (λ (x : List Transaction). AllByRecursion (Told bank) x) (sym v.1) v.2 in
       ap (λ b. b.intents) m.book ∙ progress_booked n L bank s'.chain unread refl ∙ ap open_ids (asked_all L n bank u q.done t)
 
   -- a session, if one stands, matches the one of a life
@@ -169,7 +169,7 @@ module _ (L : Label) (n : ℕ) (bank : Bank) (u : Usable L n) where
       pub whole : (x : ℕ) → Whole (sector_at v.device (volume_sector L x))
       pub found : Finds (real L n bank u) (sector_at v.device)
       pub full : Full v.device
-      pub labels : All (λ s. s ≡ holds (label_bytes L)) (v.past 0)
+      pub labels : AllByRecursion (λ s. s ≡ holds (label_bytes L)) (v.past 0)
 
     pub facts : (v : Volume) (o' : Option calls.Session) (l' : life.Life (real L n bank u) base (disk_of v) o') → Kept SizedAt (disk_of v) → Facts v
     facts v o' l' k =

@@ -4,7 +4,7 @@ use Rattle.std.proofs.lemmas.List.{length-append}
 use Rattle.codec.specs.Fields.{zeros}
 use Rattle.label.specs.declared.label.Label.{Label}
 use Rattle.label.specs.Label.{label_bytes}
-use Rattle.life.specs.Disk.{Sector, holds, Action, force, Disk, Whole, All, Writes, run}
+use Rattle.life.specs.Disk.{Sector, holds, Action, force, Disk, Whole, AllByRecursion, Writes, run}
 use Rattle.life.specs.Items.{Item, patch, cancel, opens, closes, applied}
 use Rattle.life.specs.Log.{limit}
 use Rattle.life.specs.Format.{Rec, size, Fits, Format, chain_items}
@@ -33,7 +33,7 @@ whole_sized s (b, e, l) c q = holds_sized b l c (sym e ∙ q)
 -- Each part of what is written.
 
 -- the writes of a patch
-secs_sized : (f : ℕ → Option ℕ) (l : List ℕ) (c : ℕ → Sector) → All (λ i. Whole (c i)) l → Writes SizedAt (patch_writes f l c)
+secs_sized : (f : ℕ → Option ℕ) (l : List ℕ) (c : ℕ → Sector) → AllByRecursion (λ i. Whole (c i)) l → Writes SizedAt (patch_writes f l c)
 secs_sized f [] c a = tt
 secs_sized f (i ∷ l) c a = (whole_sized (holds (mended f i (c i))) (mended_whole f i (c i) a.0), secs_sized f l c a.1)
 

@@ -1,6 +1,6 @@
 -- Items that commit accepts are sound. Assumes nothing.
 use Rattle.std.proofs.Common.{◌≡◌, ℕ, zero, suc, ◌+◌, ◌-◌, ◌*◌, ◌/◌, ◌%◌, ◌<◌, ◌≤◌, Bool, true, false, cond, ◌&&◌, ◌||◌, leb, ◌⊎◌, List, [], ◌∷◌, ◌++◌, map, length, get_or, drop, ℤ, pos, negsuc, Some, None, Ok, Option, sym, refl, ap, ◌∙◌, subst, inl, inr, mod-lt, arith}
-use Rattle.std.specs.List.{AllByRecursion as All}
+use Rattle.std.specs.List.{AllByRecursion}
 use Rattle.std.proofs.lemmas.List.{get_or-take, get_or-drop, get_or_past}
 use Rattle.std.proofs.lemmas.Bool.{and_parts, or_cases, leb-true, cases_lt}
 use Rattle.device.specs.State.{DevState}
@@ -48,12 +48,12 @@ module _ (L : Label) (n : ℕ) (bank : Bank) (u : Usable L n) where
       go x e (inl h) = omega (arith, e, h, l)
       go x e (inr h) = let some : 1 ≤ L.count = omega (arith, (limited L n u).some) in omega (arith, e, h, l, mod-lt x some)
 
-  home_all : (c : List (Option ℕ)) (first len j k : ℕ) → Bounds L n first len → j + k ≤ len → All (Home (real L n bank u)) (map (λ i. first + i) (covered_from c j k))
+  home_all : (c : List (Option ℕ)) (first len j k : ℕ) → Bounds L n first len → j + k ≤ len → AllByRecursion (Home (real L n bank u)) (map (λ i. first + i) (covered_from c j k))
   home_all c first len j zero b l = tt
   home_all c first len j (suc k) b l = go (gives_any (cover_of c j)) (home_one first len j b (omega (arith, l))) (home_all c first len (j + 1) k b (omega (arith, l)))
     where
-      go : (t : Bool) → Home (real L n bank u) (first + j) → All (Home (real L n bank u)) (map (λ i. first + i) (covered_from c (j + 1) k)) →
-          All (Home (real L n bank u)) (map (λ i. first + i) (cond t (j ∷ []) [] ++ covered_from c (j + 1) k))
+      go : (t : Bool) → Home (real L n bank u) (first + j) → AllByRecursion (Home (real L n bank u)) (map (λ i. first + i) (covered_from c (j + 1) k)) →
+          AllByRecursion (Home (real L n bank u)) (map (λ i. first + i) (cond t (j ∷ []) [] ++ covered_from c (j + 1) k))
       go true h a = (h, a)
       go false h a = a
 
@@ -138,7 +138,7 @@ module _ (L : Label) (n : ℕ) (bank : Bank) (u : Usable L n) where
   }
 
   one_sound : (d : DevState) → d.size ≡ n → (v : Verdict) → ((early : Bool) (k : PatchKey) (c : List (Option ℕ)) → v ≡ means early (patch k c) → length c ≡ 512 * k.length) →
-      (s y : ℕ) (b b' : Book) (ms : List Meaning) → check committing d L s y v b ≡ Ok b' → All (Sound (real L n bank u)) (asked ms) → All (Sound (real L n bank u)) (asked (meant v ∷ ms))
+      (s y : ℕ) (b b' : Book) (ms : List Meaning) → check committing d L s y v b ≡ Ok b' → AllByRecursion (Sound (real L n bank u)) (asked ms) → AllByRecursion (Sound (real L n bank u)) (asked (meant v ∷ ms))
   one_sound d same unknown w s y b b' ms e a = a
   one_sound d same too_large w s y b b' ms e a = a
   one_sound d same (means early malformed) w s y b b' ms e a = a
@@ -152,7 +152,7 @@ module _ (L : Label) (n : ℕ) (bank : Bank) (u : Usable L n) where
 
   -- what commit's checks accept is sound
   pub checked_sound : WholeBank bank → (d : DevState) → d.size ≡ n → (is : List Item) (b b' : Book) → check_all committing d L bank is b ≡ Ok b' →
-      All (Sound (real L n bank u)) (asked (meanings bank is))
+      AllByRecursion (Sound (real L n bank u)) (asked (meanings bank is))
   checked_sound whole d same [] b b' e = tt
   checked_sound whole d same (i ∷ is) b b' e =
       let p = bind_ok (check committing d L i.sector i.byte (verdict bank i) b) (λ q. check_all committing d L bank is q) b' e in

@@ -1,6 +1,6 @@
 -- Each step of a life by the calls is a step of a life over the real layout. Assumes nothing.
 use Rattle.std.proofs.Common.{◌≡◌, ℕ, ◌+◌, ◌-◌, ◌*◌, ◌/◌, ◌%◌, ◌<◌, ◌≤◌, Bool, true, false, cond, ◌⊎◌, List, [], ◌∷◌, ◌++◌, length, get_or, Some, None, Ok, Err, Option, sym, refl, ap, ◌∙◌, subst, inl, inr, mod-lt, arith}
-use Rattle.std.specs.List.{AllByRecursion as All}
+use Rattle.std.specs.List.{AllByRecursion}
 use Rattle.std.proofs.lemmas.List.{get_or_past}
 use Rattle.std.proofs.lemmas.Bool.{cases_lt}
 use Rattle.codec.specs.Fields.{Bytes}
@@ -167,7 +167,7 @@ module _ (L : Label) (n : ℕ) (bank : Bank) (u : Usable L n) (wide : WholeBank 
               listed = k.listed ∙ f.size;
               kept = (
                 λ j. subst (λ (x : List Sector). In (sector_at w.device j) x) (sym (k.same j)) (held j (cases_lt j v.device.size)),
-                λ j. subst (λ (x : List Sector). All (SizedAt j) x) (sym (k.same j)) (f.kept.1 j),
+                λ j. subst (λ (x : List Sector). AllByRecursion (SizedAt j) x) (sym (k.same j)) (f.kept.1 j),
               );
             };
             account = λ acc A. a acc A;

@@ -1,6 +1,6 @@
 -- Lives of a volume by the five calls and by cuts, the account of a life, and what is true in every life. Assumes nothing.
 use Rattle.std.specs.Prelude.{◌≡◌, ℕ, ◌+◌, ◌/◌, ◌<◌, ◌≤◌, Bool, true, false, cond, ◌⊎◌, List, [], ◌∷◌, ◌++◌, length, Some, None, Ok, Err, Option}
-use Rattle.std.specs.List.{AllByRecursion as All}
+use Rattle.std.specs.List.{AllByRecursion}
 use Rattle.codec.specs.Fields.{Bytes}
 use Rattle.device.specs.State.{DevState, Sector, sector_at, holds}
 use Rattle.device.specs.Actions.{force}
@@ -83,7 +83,7 @@ pub record Replayed (L : Label) (n : ℕ) (bank : Bank) (base : ℕ → Sector) 
   pub kept : List Entry
   pub dropped : List Entry
   pub split : before ≡ kept ++ dropped
-  pub unsafe : All (λ x. x.safe ≡ false) dropped
+  pub unsafe : AllByRecursion (λ x. x.safe ≡ false) dropped
   pub now_safe : after ≡ secure kept
   -- it read the records that stood from the tail to the end; their transactions are the youngest of those kept, and its counts are theirs
   pub chain : List Rec
@@ -134,7 +134,7 @@ pub record Lived {L : Label} {n : ℕ} {bank : Bank} {base : ℕ → Sector} {v 
   pub account : List Entry
   pub accounted : Account l account
   -- sector 0 has held nothing but the label
-  pub label : All (λ s. s ≡ holds (label_bytes L)) (v.past 0)
+  pub label : AllByRecursion (λ s. s ≡ holds (label_bytes L)) (v.past 0)
   -- a replay is refused only for want of actions, because a covered sector cannot be read, or for a short work buffer
   pub refused : (work : ℕ) (r : Refusal) → (replay_call v.device o bank work).answer ≡ Err r → (r.number ≡ 2) ⊎ ((r.number ≡ 3) ⊎ (r.number ≡ 4))
   -- and a replay that is accepted right after an accepted replay finds the same and changes nothing

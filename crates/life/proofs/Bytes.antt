@@ -1,7 +1,7 @@
 -- What the writes of replay, clear and commit do to the sectors, byte by byte.
 use Rattle.std.proofs.Common.{◌≡◌, ℕ, zero, suc, ◌+◌, ◌*◌, ◌/◌, ◌%◌, ◌<◌, ◌≤◌, Bool, true, false, cond, eqb, ◌⊎◌, List, [], ◌∷◌, ◌++◌, length, get_or, Some, None, Option, sym, refl, ap, ◌∙◌, subst, inl, inr, ⊎_elim, add-zero, arith}
 use native.Mathlib.Decide.{ℕ_discrete}
-use Rattle.life.specs.Disk.{Sector, holds, write, Whole, In, All, put, Writes}
+use Rattle.life.specs.Disk.{Sector, holds, write, Whole, In, AllByRecursion, put, Writes}
 use Rattle.life.specs.Items.{Item, patch, cancel, opens, closes, covered, cancelled, applied}
 use Rattle.life.specs.Log.{Ring, limit, at, Held}
 use Rattle.life.specs.Format.{Rec, Format, sector, slot}
@@ -61,7 +61,7 @@ put_whole : (c : ℕ → Sector) (i : ℕ) (s : Sector) (j : ℕ) → Whole s �
 put_whole c i s j w h = put_case (λ z. Whole z) c i s j (λ _. w) (λ _. h)
 
 -- after the writes of a patch
-pub secs_whole : (f : ℕ → Option ℕ) (l : List ℕ) (c b : ℕ → Sector) (j : ℕ) → All (λ n. Whole (c n)) l → Whole (b j) → Whole (effect (patch_writes f l c) b j)
+pub secs_whole : (f : ℕ → Option ℕ) (l : List ℕ) (c b : ℕ → Sector) (j : ℕ) → AllByRecursion (λ n. Whole (c n)) l → Whole (b j) → Whole (effect (patch_writes f l c) b j)
 secs_whole f [] c b j a h = h
 secs_whole f (i ∷ l) c b j a h =
     secs_whole f l c (put b i (holds (mended f i (c i)))) j a.1 (put_whole b i (holds (mended f i (c i))) j (mended_whole f i (c i) a.0) h)
@@ -69,11 +69,11 @@ secs_whole f (i ∷ l) c b j a h =
 -- more sectors that can be read
 pub readable_map : (c c' : ℕ → Sector) (l : List Item) → ((j : ℕ) → Whole (c j) → Whole (c' j)) → Readable c l → Readable c' l
 readable_map c c' l h r =
-    all_map (λ i. All (λ n. Whole (c n)) (covered i)) (λ i. All (λ n. Whole (c' n)) (covered i)) l
+    all_map (λ i. AllByRecursion (λ n. Whole (c n)) (covered i)) (λ i. AllByRecursion (λ n. Whole (c' n)) (covered i)) l
     (λ i a. all_map (λ n. Whole (c n)) (λ n. Whole (c' n)) (covered i) h a) r
 
 -- the writes of a patch, byte by byte of the volume: given its value, or outside the sectors written and as it was
-secs_vol : (f : ℕ → Option ℕ) (l : List ℕ) (c b : ℕ → Sector) (x : ℕ) → All (λ n. Whole (c n)) l →
+secs_vol : (f : ℕ → Option ℕ) (l : List ℕ) (c b : ℕ → Sector) (x : ℕ) → AllByRecursion (λ n. Whole (c n)) l →
     (byte_at (effect (patch_writes f l c) b) x ≡ give (f x) (byte_at c x)) ⊎ ((In (x / 512) l → ⊥) × (byte_at (effect (patch_writes f l c) b) x ≡ byte_at b x))
 secs_vol f [] c b x a = inr (λ m. m, refl)
 secs_vol f (i ∷ l) c b x a = go (ℕ_discrete (x / 512) i) (secs_vol f l c (put b i (holds (mended f i (c i)))) x a.1)
@@ -92,14 +92,14 @@ secs_vol f (i ∷ l) c b x a = go (ℕ_discrete (x / 512) i) (secs_vol f l c (pu
     go (no n) (inr q) = inr (⊎_elim n q.0, q.1 ∙ put_case (λ z. byte z (x % 512) ≡ byte_at b x) b i (holds (mended f i (c i))) (x / 512) (λ e. absurd (n e)) (λ _. refl))
 
 -- where the patch covers only bytes of its sectors
-secs_bytes : (f : ℕ → Option ℕ) (l : List ℕ) (c : ℕ → Sector) (x : ℕ) → All (λ n. Whole (c n)) l → (gives (f x) → In (x / 512) l) →
+secs_bytes : (f : ℕ → Option ℕ) (l : List ℕ) (c : ℕ → Sector) (x : ℕ) → AllByRecursion (λ n. Whole (c n)) l → (gives (f x) → In (x / 512) l) →
     byte_at (effect (patch_writes f l c) c) x ≡ give (f x) (byte_at c x)
 secs_bytes f l c x a s = ⊎_elim (λ e. e) (λ e. e.1 ∙ sym (give_none (f x) (byte_at c x) (λ g. e.0 (s g)))) (secs_vol f l c c x a)
 
--- All patches.
+-- AllByRecursion patches.
 
 -- after all of replay's writes outside the log each byte is as the patches laid it
-pub lays_bytes : (F : Format) (l : List Item) (c : ℕ → Sector) (x : ℕ) → All (Sound F) l → Readable c l → byte_at (effect (lays l c) c) x ≡ lay l x (byte_at c x)
+pub lays_bytes : (F : Format) (l : List Item) (c : ℕ → Sector) (x : ℕ) → AllByRecursion (Sound F) l → Readable c l → byte_at (effect (lays l c) c) x ≡ lay l x (byte_at c x)
 lays_bytes F [] c x s r = refl
 lays_bytes F (patch k q f ∷ rest) c x s r =
     go (cancelled k rest) (lays_bytes F rest c x s.1 r.1)
@@ -124,7 +124,7 @@ pub record Within (F : Format) (Q : ℕ → Type 0) (base : ℕ → Option ℕ) 
   pub same : (x : ℕ) → x / 512 ≡ i → (Q x → ⊥) → byte s (x % 512) ≡ base x
 
 -- the writes of a patch change only what the patch covers
-secs_within : (F : Format) (Q : ℕ → Type 0) (base : ℕ → Option ℕ) (f : ℕ → Option ℕ) (l : List ℕ) (c : ℕ → Sector) → All (Home F) l → All (λ n. Whole (c n)) l →
+secs_within : (F : Format) (Q : ℕ → Type 0) (base : ℕ → Option ℕ) (f : ℕ → Option ℕ) (l : List ℕ) (c : ℕ → Sector) → AllByRecursion (Home F) l → AllByRecursion (λ n. Whole (c n)) l →
     ((x : ℕ) → gives (f x) → Q x) → ((x : ℕ) → (Q x → ⊥) → byte_at c x ≡ base x) → Writes (Within F Q base) (patch_writes f l c)
 secs_within F Q base f [] c a r g h = tt
 secs_within F Q base f (i ∷ l) c a r g h = (record { home = a.0; same = same }, secs_within F Q base f l c a.1 r.1 g h)
@@ -135,7 +135,7 @@ secs_within F Q base f (i ∷ l) c a r g h = (record { home = a.0; same = same }
         ∙ ap (λ (j : ℕ). byte (c j) (x % 512)) (sym e) ∙ h x n
 
 -- replay's writes outside the log change only bytes that applied patches cover
-pub lays_within : (F : Format) (Q : ℕ → Type 0) (base : ℕ → Option ℕ) (l : List Item) (c : ℕ → Sector) → All (Sound F) l → Readable c l →
+pub lays_within : (F : Format) (Q : ℕ → Type 0) (base : ℕ → Option ℕ) (l : List Item) (c : ℕ → Sector) → AllByRecursion (Sound F) l → Readable c l →
     ((x : ℕ) → Applied l x → Q x) → ((x : ℕ) → (Q x → ⊥) → byte_at c x ≡ base x) → Writes (Within F Q base) (lays l c)
 lays_within F Q base [] c s r g h = tt
 lays_within F Q base (patch k q f ∷ rest) c s r g h =
@@ -161,12 +161,12 @@ lays_within F Q base (opens k ∷ rest) c s r g h = lays_within F Q base rest c 
 lays_within F Q base (closes k ∷ rest) c s r g h = lays_within F Q base rest c s.1 r.1 g h
 
 -- they are all to the volume's own sectors
-pub lays_home : (F : Format) (l : List Item) (c : ℕ → Sector) → All (Sound F) l → Readable c l → Writes (λ i s. Home F i) (lays l c)
+pub lays_home : (F : Format) (l : List Item) (c : ℕ → Sector) → AllByRecursion (Sound F) l → Readable c l → Writes (λ i s. Home F i) (lays l c)
 lays_home F l c s r = writes_map (Within F (Applied l) (byte_at c)) (λ i s. Home F i) (lays l c) (λ i z w. w.home)
     (lays_within F (Applied l) (byte_at c) l c s r (λ y a. a) (λ y n. refl))
 
 -- the log's sectors stay
-pub lays_log : (F : Format) (l : List Item) (c : ℕ → Sector) (x : ℕ) → All (Sound F) l → Readable c l → effect (lays l c) c (slot F x) ≡ c (slot F x)
+pub lays_log : (F : Format) (l : List Item) (c : ℕ → Sector) (x : ℕ) → AllByRecursion (Sound F) l → Readable c l → effect (lays l c) c (slot F x) ≡ c (slot F x)
 lays_log F l c x s r = effect_other (lays l c) c (slot F x)
     (writes_map (λ i s. Home F i) (λ i s. slot F x ≡ i → ⊥) (lays l c) (λ i z w e. w.free x e) (lays_home F l c s r))
 

@@ -1,7 +1,7 @@
 -- Commit, force and label: what they leave.
 use Rattle.std.proofs.Common.{◌≡◌, ℕ, zero, suc, ◌+◌, ◌-◌, ◌/◌, ◌%◌, ◌<◌, ◌≤◌, Bool, true, false, List, [], ◌∷◌, ◌++◌, sym, refl, ap, ◌∙◌, subst, inl, inr, ⊎_elim, append_assoc, append-nil, add-zero, arith}
 use native.Mathlib.Decide.{dec_le, dec_lt}
-use Rattle.life.specs.Disk.{Sector, Action, write, force, Disk, Whole, In, All, act, run, Writes}
+use Rattle.life.specs.Disk.{Sector, Action, write, force, Disk, Whole, In, AllByRecursion, act, run, Writes}
 use Rattle.life.specs.Items.{Item}
 use Rattle.life.specs.Format.{Rec, size, Fits, Transaction, Format, all_items, chain_items, sector, slot}
 use Rattle.life.specs.Calls.{byte, byte_at, Home, Sound, effect, puts, Session, Commits, committed, settles}
@@ -193,11 +193,11 @@ module _ (F : Format) (base : ℕ → Sector) (acc : List Entry) (d : Disk) (s :
   kept = run_keeps Committing acts d (L.current, begin) writes
 
   -- the log
-  pub okay_v : (x : ℕ) → s.e + size r ≤ x + F.ring.N → x < s.e + size r → All (Okay F s.t (T ++ (R ∷ [])) s.a x) (v.past (slot F x))
+  pub okay_v : (x : ℕ) → s.e + size r ≤ x + F.ring.N → x < s.e + size r → AllByRecursion (Okay F s.t (T ++ (R ∷ [])) s.a x) (v.past (slot F x))
   okay_v x p q = all_map (Committing (slot F x)) (Okay F s.t (T ++ (R ∷ [])) s.a x) (v.past (slot F x)) (λ z c. c.log x p q refl) (kept.1 (slot F x))
 
   -- the volume's own sectors
-  pub holds_v : (x : ℕ) → Home F (x / 512) → All (λ z. Holds (all_items F (L.older ++ F.reads (tile_bodies (L.clearing ∷ L.laid)))) x (byte_at base x) (byte z (x % 512))) (v.past (x / 512))
+  pub holds_v : (x : ℕ) → Home F (x / 512) → AllByRecursion (λ z. Holds (all_items F (L.older ++ F.reads (tile_bodies (L.clearing ∷ L.laid)))) x (byte_at base x) (byte z (x % 512))) (v.past (x / 512))
   holds_v x hm = all_map (Committing (x / 512)) _ (v.past (x / 512)) (λ z c. c.home hm x refl) (kept.1 (x / 512))
 
   -- refused at some sector
@@ -228,7 +228,7 @@ module _ (F : Format) (base : ℕ → Sector) (acc : List Entry) (d : Disk) (s :
           long = let w = width-++ T (R ∷ []) in omega (arith, ends_at);
         };
         okay = okay_v;
-        free = λ l. subst (λ (k : List Sector). All (λ z. F.ring.pos (slot F (s.e + i)) z + F.ring.N ≡ s.e + i) k) (sym same)
+        free = λ l. subst (λ (k : List Sector). AllByRecursion (λ z. F.ring.pos (slot F (s.e + i)) z + F.ring.N ≡ s.e + i) k) (sym same)
             (all_of (λ z. F.ring.pos (slot F (s.e + i)) z + F.ring.N ≡ s.e + i) (d.past (slot F (s.e + i))) (behind (s.e + i) (omega arith) (omega arith)));
         outcomes = λ n e tile B a u. live_outcomes F base acc d s L (R ∷ []) v.past holds_v n e tile B a
             (let z = boundary_le s.t T R n e tile B (omega (arith, ends_at)) in omega (arith, ends_at));
@@ -303,8 +303,8 @@ module _ (F : Format) (base : ℕ → Sector) (acc : List Entry) (d : Disk) (s :
     laid_is = L.laid_is;
     holds = holds_v F base acc d s L r s.t K.window K.room fit;
     closed = L.closed;
-    sound = subst (λ (z : List Item). All (Sound F) z) (sym (ap (all_items F) reads_on ∙ all_items-++ F (F.reads (tile_bodies T')) (x ∷ [])))
-        (all_both (Sound F) (chain_items F (tile_bodies T')) (F.items x ++ []) L.sound (subst (λ (z : List Item). All (Sound F) z) (sym (append-nil (F.items x))) K.sound));
+    sound = subst (λ (z : List Item). AllByRecursion (Sound F) z) (sym (ap (all_items F) reads_on ∙ all_items-++ F (F.reads (tile_bodies T')) (x ∷ [])))
+        (all_both (Sound F) (chain_items F (tile_bodies T')) (F.items x ++ []) L.sound (subst (λ (z : List Item). AllByRecursion (Sound F) z) (sym (append-nil (F.items x))) K.sound));
     passes = ap F.pass (tile_bodies-++ T' (R' ∷ []) ∙ ap (λ (z : List Rec). z ++ (r ∷ [])) (sym L.chain)) ∙ K.passes;
   }
     where
@@ -407,7 +407,7 @@ label_dead F base r d l same = record {
   at_a = B;
   current = λ j. subst (λ (k : List Sector). In (d.now j) k) (sym (l.fixed j)) (inl refl);
   log = record { begun = omega arith; low = omega arith; high = omega arith; window = omega arith; turn = omega arith; room = omega (arith, l.clearing.short, F.ring.narrow); long = omega arith };
-  okay = λ x p q. subst (λ (k : List Sector). All (Okay F F.ring.N (Q ∷ []) e x) k) (sym (l.fixed (slot F x))) (ok x p q, tt);
+  okay = λ x p q. subst (λ (k : List Sector). AllByRecursion (Okay F F.ring.N (Q ∷ []) e x) k) (sym (l.fixed (slot F x))) (ok x p q, tt);
   free = λ z. absurd (omega arith);
   outcomes = outs;
 }
@@ -454,9 +454,9 @@ label_dead F base r d l same = record {
       whole = λ _. refl;
       older = [];
       youngest = sym l.clearing.empty;
-      claim = λ x hm na. subst (λ (k : List Sector). All (λ z. byte z (x % 512) ≡ byte_at base x) k) (sym (l.fixed (x / 512))) (ap (λ (z : Sector). byte z (x % 512)) (same (x / 512)), tt);
+      claim = λ x hm na. subst (λ (k : List Sector). AllByRecursion (λ z. byte z (x % 512) ≡ byte_at base x) k) (sym (l.fixed (x / 512))) (ap (λ (z : Sector). byte z (x % 512)) (same (x / 512)), tt);
       closed = refl;
-      sound = subst (λ (k : List Transaction). All (Sound F) (all_items F k)) (sym l.clearing.empty) tt;
+      sound = subst (λ (k : List Transaction). AllByRecursion (Sound F) (all_items F k)) (sym l.clearing.empty) tt;
       passes = l.clearing.passes;
     }
 

@@ -1,7 +1,7 @@
 -- Clear: wherever it is refused a replay keeps all; accepted, it leaves a session's volume with an empty chain.
 use Rattle.std.proofs.Common.{◌≡◌, ℕ, zero, suc, ◌+◌, ◌/◌, ◌%◌, ◌<◌, ◌≤◌, Bool, true, false, List, [], ◌∷◌, ◌++◌, sym, refl, ap, ◌∙◌, subst, inl, append-nil, arith}
 use native.Mathlib.Decide.{ℕ_discrete}
-use Rattle.life.specs.Disk.{Sector, Action, write, force, Disk, All, act, run}
+use Rattle.life.specs.Disk.{Sector, Action, write, force, Disk, AllByRecursion, act, run}
 use Rattle.life.specs.Items.{open_ids}
 use Rattle.life.specs.Format.{Rec, size, Fits, Transaction, Format, all_items, sector, slot}
 use Rattle.life.specs.Calls.{byte, byte_at, Home, Sound, puts, Session, cleared}
@@ -31,7 +31,7 @@ puts_home F r t p (suc k) j d i hm = go d.left (λ n. puts_home F r t p k (j + 1
 -- a volume on which all patches are laid and forced, before and while the clearing record is written
 module _ (F : Format) (base : ℕ → Sector) (acc : List Entry) (d : Disk) (s : Session) (L : Live F base acc d s) (q : Rec)
     (win : s.e + size q ≤ s.a + F.ring.W) (room : s.e + size q ≤ s.t + F.ring.N) (fit : Fits F.ring q s.e s.e) (empty : F.reads (q ∷ []) ≡ []) (passes : F.pass (q ∷ []) ≡ true)
-    (full : (x : ℕ) → Home F (x / 512) → All (λ z. Holds (all_items F (transactions acc)) x (byte_at base x) (byte z (x % 512))) (d.past (x / 512)))
+    (full : (x : ℕ) → Home F (x / 512) → AllByRecursion (λ z. Holds (all_items F (transactions acc)) x (byte_at base x) (byte z (x % 512))) (d.past (x / 512)))
     (shut : open_ids (all_items F (transactions acc)) ≡ []) where
   -- the session's records
   abbrev T : List Tile
@@ -54,13 +54,13 @@ module _ (F : Format) (base : ℕ → Sector) (acc : List Entry) (d : Disk) (s :
   none_more = sym (append-nil (transactions acc)) ∙ ap (λ (l : List Transaction). transactions acc ++ l) (sym empty)
 
   -- its writes leave the volume's own sectors
-  full_v : (x : ℕ) → Home F (x / 512) → All (λ z. Holds (all_items F (transactions acc)) x (byte_at base x) (byte z (x % 512))) (v.past (x / 512))
-  full_v x hm = subst (λ (l : List Sector). All (λ z. Holds (all_items F (transactions acc)) x (byte_at base x) (byte z (x % 512))) l)
+  full_v : (x : ℕ) → Home F (x / 512) → AllByRecursion (λ z. Holds (all_items F (transactions acc)) x (byte_at base x) (byte z (x % 512))) (v.past (x / 512))
+  full_v x hm = subst (λ (l : List Sector). AllByRecursion (λ z. Holds (all_items F (transactions acc)) x (byte_at base x) (byte z (x % 512))) l)
       (sym (puts_home F q s.e s.e (size q) 0 d (x / 512) hm)) (full x hm)
 
   -- nor what the session knows of them
-  half_v : (x : ℕ) → Home F (x / 512) → All (λ z. Holds (all_items F (L.older ++ F.reads (tile_bodies (L.clearing ∷ L.laid)))) x (byte_at base x) (byte z (x % 512))) (v.past (x / 512))
-  half_v x hm = subst (λ (l : List Sector). All (λ z. Holds (all_items F (L.older ++ F.reads (tile_bodies (L.clearing ∷ L.laid)))) x (byte_at base x) (byte z (x % 512))) l)
+  half_v : (x : ℕ) → Home F (x / 512) → AllByRecursion (λ z. Holds (all_items F (L.older ++ F.reads (tile_bodies (L.clearing ∷ L.laid)))) x (byte_at base x) (byte z (x % 512))) (v.past (x / 512))
+  half_v x hm = subst (λ (l : List Sector). AllByRecursion (λ z. Holds (all_items F (L.older ++ F.reads (tile_bodies (L.clearing ∷ L.laid)))) x (byte_at base x) (byte z (x % 512))) l)
       (sym (puts_home F q s.e s.e (size q) 0 d (x / 512) hm)) (L.holds x hm)
 
   -- the clearing record is written and not yet forced
@@ -118,7 +118,7 @@ module _ (F : Format) (base : ℕ → Sector) (acc : List Entry) (d : Disk) (s :
         youngest = none_more;
         claim = λ x hm na. full_v x hm;
         closed = shut;
-        sound = subst (λ (l : List Transaction). All (Sound F) (all_items F l)) (sym empty) tt;
+        sound = subst (λ (l : List Transaction). AllByRecursion (Sound F) (all_items F l)) (sym empty) tt;
         passes = passes;
       }
 
@@ -167,7 +167,7 @@ module _ (F : Format) (base : ℕ → Sector) (acc : List Entry) (d : Disk) (s :
       tt,
     );
     closed = shut;
-    sound = subst (λ (l : List Transaction). All (Sound F) (all_items F l)) (sym empty) tt;
+    sound = subst (λ (l : List Transaction). AllByRecursion (Sound F) (all_items F l)) (sym empty) tt;
     passes = passes;
   }
     where

@@ -1,7 +1,7 @@
 -- What holds of a volume from a cut, or a refusal for want of actions, up to the next accepted replay.
 use Rattle.std.proofs.Common.{◌≡◌, ℕ, ◌+◌, ◌-◌, ◌/◌, ◌%◌, ◌<◌, ◌≤◌, true, false, ◌⊎◌, List, [], ◌∷◌, ◌++◌, sym, refl, ap, ◌∙◌, subst, inl, inr, ⊎_elim, append_assoc, arith}
 use native.Mathlib.Decide.{dec_lt}
-use Rattle.life.specs.Disk.{Sector, Disk, All}
+use Rattle.life.specs.Disk.{Sector, Disk, AllByRecursion}
 use Rattle.life.specs.Items.{open_ids}
 use Rattle.life.specs.Log.{Ring, limit, at, Held, Greatest, Head, Newest}
 use Rattle.life.specs.Format.{Rec, size, Fits, Transaction, Format, all_items, chain_items, sector, slot}
@@ -34,18 +34,18 @@ pub record Outcome (F : Format) (base : ℕ → Sector) (acc : List Entry) (past
   pub cut : tiles ≡ front ++ ((clearing ∷ counted) ++ rest)
   pub ends : e ≡ t + width front + width (clearing ∷ counted)
   pub told : tile.tail ≡ t + width front
-  pub tails : All (λ r. r.tail ≡ t + width front) (clearing ∷ counted)
+  pub tails : AllByRecursion (λ r. r.tail ≡ t + width front) (clearing ∷ counted)
   pub kept : List Entry
   pub dropped : List Entry
   pub split : acc ≡ kept ++ dropped
-  pub unsafe : All (λ x. x.safe ≡ false) dropped
+  pub unsafe : AllByRecursion (λ x. x.safe ≡ false) dropped
   pub whole : e ≡ t + width tiles → dropped ≡ []
   pub older : List Transaction
   pub youngest : transactions kept ≡ older ++ F.reads (tile_bodies (clearing ∷ counted))
   pub claim : (x : ℕ) → Home F (x / 512) → (Applied (chain_items F (tile_bodies (clearing ∷ counted))) x → ⊥) →
-      All (λ s. Holds (all_items F (transactions kept)) x (byte_at base x) (byte s (x % 512))) (past (x / 512))
+      AllByRecursion (λ s. Holds (all_items F (transactions kept)) x (byte_at base x) (byte s (x % 512))) (past (x / 512))
   pub closed : open_ids (all_items F older) ≡ []
-  pub sound : All (Sound F) (chain_items F (tile_bodies (clearing ∷ counted)))
+  pub sound : AllByRecursion (Sound F) (chain_items F (tile_bodies (clearing ∷ counted)))
   pub passes : F.pass (tile_bodies (clearing ∷ counted)) ≡ true
 
 -- a volume without a session: its log, and what replay would keep, whichever end it finds
@@ -60,8 +60,8 @@ pub record Dead (F : Format) (base : ℕ → Sector) (acc : List Entry) (d : Dis
   pub last_tile : Tile
   pub at_a : Boundary t tiles last a last_tile
   pub current : Current d
-  pub okay : (x : ℕ) → b ≤ x + F.ring.N → x < b → All (Okay F t tiles a x) (d.past (slot F x))
-  pub free : u < b → All (λ s. F.ring.pos (slot F u) s + F.ring.N ≡ u) (d.past (slot F u))
+  pub okay : (x : ℕ) → b ≤ x + F.ring.N → x < b → AllByRecursion (Okay F t tiles a x) (d.past (slot F x))
+  pub free : u < b → AllByRecursion (λ s. F.ring.pos (slot F u) s + F.ring.N ≡ u) (d.past (slot F u))
   pub outcomes : (n e : ℕ) (tile : Tile) → Boundary t tiles n e tile → a ≤ e → e ≤ u → Outcome F base acc d.past t tiles e
 
 -- there is one greatest position

@@ -1,7 +1,7 @@
 -- What runs and cuts do to the contents that sectors have held.
 use Rattle.std.proofs.Common.{◌≡◌, ℕ, zero, suc, Bool, true, false, cond, T, eqb, List, [], ◌∷◌, ◌++◌, sym, refl, ap, ◌∙◌, subst, inl, eqb→eq}
 use lib.Dec.{eqb_refl}
-use Rattle.life.specs.Disk.{Sector, holds, Action, write, force, Disk, In, All, put, act, run, Writes, Fixed}
+use Rattle.life.specs.Disk.{Sector, holds, Action, write, force, Disk, In, AllByRecursion, put, act, run, Writes, Fixed}
 use Rattle.life.specs.Calls.{effect}
 use Rattle.life.proofs.Lists.{false_true, in_all}
 
@@ -27,7 +27,7 @@ Current d = (j : ℕ) → In (d.now j) (d.past j)
 
 -- all that sectors have held since the last force has P
 abbrev pub Every : (ℕ → Sector → Type 0) → Disk → Type 0
-Every P d = (j : ℕ) → All (P j) (d.past j)
+Every P d = (j : ℕ) → AllByRecursion (P j) (d.past j)
 
 -- an accepted action leaves its contents among those held
 act_current : (a : Action) (k : ℕ) (d : Disk) → Current d → Current (act a k d)
@@ -42,8 +42,8 @@ act_current force k d c j = inl refl
 -- it keeps what holds of all that was held and of what it writes
 act_every : (P : ℕ → Sector → Type 0) (a : Action) (k : ℕ) (d : Disk) → Current d → Every P d → Writes P (a ∷ []) → Every P (act a k d)
 act_every P (write i s) k d c e w j =
-    put_each (λ j l. All (P j) l) d.past i (holds s ∷ d.past i) j
-    (λ same. subst (λ (n : ℕ). All (P n) (holds s ∷ d.past i)) (sym same) (w.0, e i)) (e j)
+    put_each (λ j l. AllByRecursion (P j) l) d.past i (holds s ∷ d.past i) j
+    (λ same. subst (λ (n : ℕ). AllByRecursion (P n) (holds s ∷ d.past i)) (sym same) (w.0, e i)) (e j)
 act_every P force k d c e w j = (in_all (P j) (d.now j) (d.past j) (e j) (c j), tt)
 
 -- all that is held has P, the present contents too

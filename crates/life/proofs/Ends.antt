@@ -1,6 +1,6 @@
 -- A volume whose session lives is one that a cut may fall on: what replay may find then.
 use Rattle.std.proofs.Common.{◌≡◌, ℕ, ◌+◌, ◌/◌, ◌%◌, ◌≤◌, true, false, List, [], ◌∷◌, ◌++◌, sym, refl, ap, ◌∙◌, subst, append_assoc, append-nil, add-zero, arith}
-use Rattle.life.specs.Disk.{Sector, Disk, All}
+use Rattle.life.specs.Disk.{Sector, Disk, AllByRecursion}
 use Rattle.life.specs.Items.{Item}
 use Rattle.life.specs.Format.{size, Transaction, Format, all_items, chain_items, slot}
 use Rattle.life.specs.Calls.{byte, byte_at, Home, Sound, Session}
@@ -23,7 +23,7 @@ module _ (F : Format) (base : ℕ → Sector) (acc : List Entry) (d : Disk) (s :
 
   -- what replay keeps when it finds an end that is the session's or lies between the last force and that
   pub live_outcomes : (extra : List Tile) (past : ℕ → List Sector) →
-      ((x : ℕ) → Home F (x / 512) → All (λ z. Holds (all_items F (L.older ++ F.reads (tile_bodies (L.clearing ∷ L.laid)))) x (byte_at base x) (byte z (x % 512))) (past (x / 512))) →
+      ((x : ℕ) → Home F (x / 512) → AllByRecursion (λ z. Holds (all_items F (L.older ++ F.reads (tile_bodies (L.clearing ∷ L.laid)))) x (byte_at base x) (byte z (x % 512))) (past (x / 512))) →
       (n e : ℕ) (tile : Tile) → Boundary s.t (tiles ++ extra) n e tile → s.a ≤ e → e ≤ s.e → Outcome F base acc past s.t (tiles ++ extra) e
   live_outcomes extra past holds n e tile B lo hi = go p refl
     where
@@ -53,7 +53,7 @@ module _ (F : Format) (base : ℕ → Sector) (acc : List Entry) (d : Disk) (s :
         kept = L.sure ++ Y.found;
         dropped = Y.missed;
         split = acc_split;
-        unsafe = all_right (λ x. x.safe ≡ false) Y.found Y.missed (subst (λ (z : List Entry). All (λ x. x.safe ≡ false) z) Y.split L.unsafe);
+        unsafe = all_right (λ x. x.safe ≡ false) Y.found Y.missed (subst (λ (z : List Entry). AllByRecursion (λ x. x.safe ≡ false) z) Y.split L.unsafe);
         whole = whole_kept;
         older = L.older;
         youngest = young;
@@ -110,16 +110,16 @@ module _ (F : Format) (base : ℕ → Sector) (acc : List Entry) (d : Disk) (s :
               ∙ append_assoc L.older (F.reads (tile_bodies (L.clearing ∷ L.firm))) (transactions Y.found)
               ∙ ap (λ (z : List Transaction). L.older ++ z) (sym Y.reads ∙ ap (λ (z : List Tile). F.reads (tile_bodies (L.clearing ∷ z))) (sym V.1))
 
-          in_all_tails : All (λ r. r.tail ≡ s.t) p
-          in_all_tails = subst (λ (z : List Tile). All (λ r. r.tail ≡ s.t) z) (sym is_p)
-              (L.tails.0, all_left (λ r. r.tail ≡ s.t) l U.0 (subst (λ (z : List Tile). All (λ r. r.tail ≡ s.t) z) U.1 L.tails.1))
+          in_all_tails : AllByRecursion (λ r. r.tail ≡ s.t) p
+          in_all_tails = subst (λ (z : List Tile). AllByRecursion (λ r. r.tail ≡ s.t) z) (sym is_p)
+              (L.tails.0, all_left (λ r. r.tail ≡ s.t) l U.0 (subst (λ (z : List Tile). AllByRecursion (λ r. r.tail ≡ s.t) z) U.1 L.tails.1))
 
           told : tile.tail ≡ s.t + 0
           told = (all_right (λ r. r.tail ≡ s.t) B.done (tile ∷ []) in_all_tails).0 ∙ sym (add-zero s.t)
 
-          tails : All (λ r. r.tail ≡ s.t + 0) (L.clearing ∷ l)
+          tails : AllByRecursion (λ r. r.tail ≡ s.t + 0) (L.clearing ∷ l)
           tails = all_map (λ r. r.tail ≡ s.t) (λ r. r.tail ≡ s.t + 0) (L.clearing ∷ l) (λ r h. h ∙ sym (add-zero s.t))
-              (subst (λ (z : List Tile). All (λ r. r.tail ≡ s.t) z) is_p in_all_tails)
+              (subst (λ (z : List Tile). AllByRecursion (λ r. r.tail ≡ s.t) z) is_p in_all_tails)
 
           -- the chain found goes on from the records whose patches were laid
           l_is : tile_bodies (L.clearing ∷ l) ≡ tile_bodies (L.clearing ∷ L.laid) ++ tile_bodies (L.later ++ V.0)
@@ -146,7 +146,7 @@ module _ (F : Format) (base : ℕ → Sector) (acc : List Entry) (d : Disk) (s :
           chain_is = ap (all_items F) read_is ∙ all_items-++ F laid_reads M.0
 
           claim : (x : ℕ) → Home F (x / 512) → (Applied (chain_items F (tile_bodies (L.clearing ∷ l))) x → ⊥) →
-              All (λ z. Holds (all_items F (transactions (L.sure ++ Y.found))) x (byte_at base x) (byte z (x % 512))) (past (x / 512))
+              AllByRecursion (λ z. Holds (all_items F (transactions (L.sure ++ Y.found))) x (byte_at base x) (byte z (x % 512))) (past (x / 512))
           claim x hm na = all_map _ _ (past (x / 512)) each (holds x hm)
             where
               none : Applied more x → ⊥
@@ -164,9 +164,9 @@ module _ (F : Format) (base : ℕ → Sector) (acc : List Entry) (d : Disk) (s :
           more_reads : (w : List Transaction) × (F.reads (tile_bodies (L.clearing ∷ l) ++ tile_bodies U.0) ≡ F.reads (tile_bodies (L.clearing ∷ l)) ++ w)
           more_reads = F.reads_more (tile_bodies (L.clearing ∷ l)) (tile_bodies U.0)
 
-          sounds : All (Sound F) (chain_items F (tile_bodies (L.clearing ∷ l)))
+          sounds : AllByRecursion (Sound F) (chain_items F (tile_bodies (L.clearing ∷ l)))
           sounds = all_left (Sound F) (chain_items F (tile_bodies (L.clearing ∷ l))) (all_items F more_reads.0)
-              (subst (λ (z : List Item). All (Sound F) z)
+              (subst (λ (z : List Item). AllByRecursion (Sound F) z)
               (ap (all_items F) (ap F.reads all_is ∙ more_reads.1) ∙ all_items-++ F (F.reads (tile_bodies (L.clearing ∷ l))) more_reads.0) L.sound)
 
           passing : F.pass (tile_bodies (L.clearing ∷ l)) ≡ true

@@ -1,7 +1,7 @@
 -- A small format that meets the laws, on a device of 40 sectors with a log of 16, and a life in it: a label, a replay, a commit and a cut.
 use Rattle.std.proofs.Common.{◌≡◌, ℕ, zero, suc, ◌+◌, ◌-◌, ◌*◌, ◌/◌, ◌%◌, ◌<◌, ◌≤◌, Bool, true, false, cond, eqb, List, [], ◌∷◌, ◌++◌, length, get_or, replicate, pos, Some, None, Option, sym, refl, ap, ◌∙◌, subst, inl, inr, append_assoc, arith}
 use native.Mathlib.Decide.{dec_lt}
-use Rattle.life.specs.Disk.{Sector, holds, unreadable, Disk, In, All, Cut}
+use Rattle.life.specs.Disk.{Sector, holds, unreadable, Disk, In, AllByRecursion, Cut}
 use Rattle.life.specs.Items.{Item, patch, Covers}
 use Rattle.life.specs.Log.{Ring, at, Held}
 use Rattle.life.specs.Format.{Rec, size, Small, Fits, Transaction, Format}
@@ -47,7 +47,7 @@ uncode zero n = []
 uncode (suc k) n = n % 256 ∷ uncode k (n / 256)
 
 -- the number gives the bytes back
-uncode_code : (l : List ℕ) → All (λ b. b < 256) l → uncode (length l) (code l) ≡ l
+uncode_code : (l : List ℕ) → AllByRecursion (λ b. b < 256) l → uncode (length l) (code l) ≡ l
 uncode_code [] a = refl
 uncode_code (b ∷ l) a =
     let low : b < 256 = a.0 in
@@ -145,7 +145,7 @@ abbrev clearing : Rec
 clearing = record { previous = 0; ops = 0; more = 1; payload = replicate 512 0 }
 
 -- zeros are bytes
-all_zero : (n : ℕ) → All (λ b. b < 256) (replicate n 0)
+all_zero : (n : ℕ) → AllByRecursion (λ b. b < 256) (replicate n 0)
 all_zero zero = tt
 all_zero (suc n) = (omega arith, all_zero n)
 

@@ -1,7 +1,7 @@
 -- Members of lists, and fronts of lists.
 use Rattle.std.proofs.Common.{◌≡◌, ℕ, Bool, true, false, T, eqb, ◌⊎◌, List, [], ◌∷◌, ◌++◌, sym, refl, ap, ◌∙◌, subst, inl, inr, ⊎_elim, arith, eqb→eq}
 use lib.Dec.{eqb_refl}
-use Rattle.life.specs.Disk.{In, All}
+use Rattle.life.specs.Disk.{In, AllByRecursion}
 
 -- nothing is both
 pub false_true : {A : Type 0} → false ≡ true → A
@@ -21,33 +21,33 @@ pub same_eqb : (m n : ℕ) → eqb m n ≡ true → m ≡ n
 same_eqb m n e = eqb→eq m n (subst T (sym e) tt)
 
 -- what each has, one of them has
-pub in_all : {S : Type 0} (P : S → Type 0) (x : S) (l : List S) → All P l → In x l → P x
+pub in_all : {S : Type 0} (P : S → Type 0) (x : S) (l : List S) → AllByRecursion P l → In x l → P x
 in_all P x [] a m = absurd m
 in_all P x (y ∷ ys) a (inl e) = subst P (sym e) a.0
 in_all P x (y ∷ ys) a (inr m) = in_all P x ys a.1 m
 
 -- what every member has, each has
-pub all_of : {S : Type 0} (P : S → Type 0) (l : List S) → ((z : S) → In z l → P z) → All P l
+pub all_of : {S : Type 0} (P : S → Type 0) (l : List S) → ((z : S) → In z l → P z) → AllByRecursion P l
 all_of P [] f = tt
 all_of P (x ∷ l) f = (f x (inl refl), all_of P l (λ z m. f z (inr m)))
 
 -- one property for another
-pub all_map : {S : Type 0} (P Q : S → Type 0) (l : List S) → ((s : S) → P s → Q s) → All P l → All Q l
+pub all_map : {S : Type 0} (P Q : S → Type 0) (l : List S) → ((s : S) → P s → Q s) → AllByRecursion P l → AllByRecursion Q l
 all_map P Q [] f a = tt
 all_map P Q (y ∷ ys) f a = (f y a.0, all_map P Q ys f a.1)
 
 -- the front of a list
-pub all_left : {S : Type 0} (P : S → Type 0) (l m : List S) → All P (l ++ m) → All P l
+pub all_left : {S : Type 0} (P : S → Type 0) (l m : List S) → AllByRecursion P (l ++ m) → AllByRecursion P l
 all_left P [] m a = tt
 all_left P (x ∷ l) m a = (a.0, all_left P l m a.1)
 
 -- and the rest of it
-pub all_right : {S : Type 0} (P : S → Type 0) (l m : List S) → All P (l ++ m) → All P m
+pub all_right : {S : Type 0} (P : S → Type 0) (l m : List S) → AllByRecursion P (l ++ m) → AllByRecursion P m
 all_right P [] m a = a
 all_right P (x ∷ l) m a = all_right P l m a.1
 
 -- both together
-pub all_both : {S : Type 0} (P : S → Type 0) (l m : List S) → All P l → All P m → All P (l ++ m)
+pub all_both : {S : Type 0} (P : S → Type 0) (l m : List S) → AllByRecursion P l → AllByRecursion P m → AllByRecursion P (l ++ m)
 all_both P [] m a b = b
 all_both P (x ∷ l) m a b = (a.0, all_both P l m a.1 b)
 

@@ -1,7 +1,7 @@
 -- What holds of a volume while its session lives, and that an accepted replay leaves such a volume.
 use Rattle.std.proofs.Common.{◌≡◌, ℕ, ◌+◌, ◌-◌, ◌/◌, ◌%◌, ◌<◌, ◌≤◌, true, false, ◌⊎◌, List, [], ◌∷◌, ◌++◌, Option, sym, refl, ap, ◌∙◌, subst, inl, ⊎_elim, append_assoc, append-nil, arith}
 use native.Mathlib.Decide.{dec_le, dec_lt}
-use Rattle.life.specs.Disk.{Sector, force, Disk, Whole, In, All, run, Fixed}
+use Rattle.life.specs.Disk.{Sector, force, Disk, Whole, In, AllByRecursion, run, Fixed}
 use Rattle.life.specs.Items.{Item, open_after, open_ids}
 use Rattle.life.specs.Log.{at, Held, Newest}
 use Rattle.life.specs.Format.{size, Transaction, Format, all_items, chain_items, slot}
@@ -31,7 +31,7 @@ pub record Front (F : Format) (clearing : Tile) (firm y z : List Tile) (entries 
 pub record Live (F : Format) (base : ℕ → Sector) (acc : List Entry) (d : Disk) (s : Session) : Type 0 where
   pub clearing : Tile
   pub counted : List Tile
-  pub tails : All (λ r. r.tail ≡ s.t) (clearing ∷ counted)
+  pub tails : AllByRecursion (λ r. r.tail ≡ s.t) (clearing ∷ counted)
   pub ends : s.e ≡ s.t + width (clearing ∷ counted)
   pub chain : s.chain ≡ tile_bodies (clearing ∷ counted)
   pub begun : s.t < s.a
@@ -44,21 +44,21 @@ pub record Live (F : Format) (base : ℕ → Sector) (acc : List Entry) (d : Dis
   pub apart : counted ≡ firm ++ loose
   pub at_a : s.a ≡ s.t + width (clearing ∷ firm)
   pub current : Current d
-  pub okay : (x : ℕ) → s.e ≤ x + F.ring.N → x < s.e → All (Okay F s.t (clearing ∷ counted) s.a x) (d.past (slot F x))
+  pub okay : (x : ℕ) → s.e ≤ x + F.ring.N → x < s.e → AllByRecursion (Okay F s.t (clearing ∷ counted) s.a x) (d.past (slot F x))
   pub now_ok : (x : ℕ) → s.e ≤ x + F.ring.N → x < s.e → Okay F s.t (clearing ∷ counted) s.e x (d.now (slot F x))
   pub sure : List Entry
   pub open_end : List Entry
   pub split : acc ≡ sure ++ open_end
-  pub unsafe : All (λ x. x.safe ≡ false) open_end
+  pub unsafe : AllByRecursion (λ x. x.safe ≡ false) open_end
   pub older : List Transaction
   pub sure_is : transactions sure ≡ older ++ F.reads (tile_bodies (clearing ∷ firm))
   pub open_is : (y z : List Tile) → loose ≡ y ++ z → Front F clearing firm y z open_end
   pub laid : List Tile
   pub later : List Tile
   pub laid_is : firm ≡ laid ++ later
-  pub holds : (x : ℕ) → Home F (x / 512) → All (λ z. Holds (all_items F (older ++ F.reads (tile_bodies (clearing ∷ laid)))) x (byte_at base x) (byte z (x % 512))) (d.past (x / 512))
+  pub holds : (x : ℕ) → Home F (x / 512) → AllByRecursion (λ z. Holds (all_items F (older ++ F.reads (tile_bodies (clearing ∷ laid)))) x (byte_at base x) (byte z (x % 512))) (d.past (x / 512))
   pub closed : open_ids (all_items F older) ≡ []
-  pub sound : All (Sound F) (chain_items F (tile_bodies (clearing ∷ counted)))
+  pub sound : AllByRecursion (Sound F) (chain_items F (tile_bodies (clearing ∷ counted)))
   pub passes : F.pass (tile_bodies (clearing ∷ counted)) ≡ true
 
 -- making them safe changes no transaction
@@ -262,7 +262,7 @@ module _ (F : Format) (base : ℕ → Sector) (acc : List Entry) (d : Disk) (D :
     apart = sym (append-nil O.counted);
     at_a = O.ends;
     current = λ j. subst (λ (l : List Sector). In (v.now j) l) (sym (fixed j)) (inl refl);
-    okay = λ x p q. subst (λ (l : List Sector). All (Okay F (D.t + width O.front) (O.clearing ∷ O.counted) e x) l) (sym (fixed (slot F x))) (now_okay' x p q, tt);
+    okay = λ x p q. subst (λ (l : List Sector). AllByRecursion (Okay F (D.t + width O.front) (O.clearing ∷ O.counted) e x) l) (sym (fixed (slot F x))) (now_okay' x p q, tt);
     now_ok = now_okay';
     sure = new;
     open_end = [];
@@ -274,7 +274,7 @@ module _ (F : Format) (base : ℕ → Sector) (acc : List Entry) (d : Disk) (D :
     laid = O.counted;
     later = [];
     laid_is = sym (append-nil O.counted);
-    holds = λ x hm. subst (λ (l : List Sector). All (λ z. Holds (all_items F (O.older ++ F.reads (tile_bodies (O.clearing ∷ O.counted)))) x (byte_at base x) (byte z (x % 512))) l) (sym (fixed (x / 512)))
+    holds = λ x hm. subst (λ (l : List Sector). AllByRecursion (λ z. Holds (all_items F (O.older ++ F.reads (tile_bodies (O.clearing ∷ O.counted)))) x (byte_at base x) (byte z (x % 512))) l) (sym (fixed (x / 512)))
         (subst (λ (l : List Transaction). Holds (all_items F l) x (byte_at base x) (byte_at v.now x)) O.youngest (holds_now x hm), tt);
     closed = O.closed;
     sound = O.sound;

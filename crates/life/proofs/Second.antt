@@ -1,6 +1,6 @@
 -- A second replay right after an accepted one changes nothing; and all together.
 use Rattle.std.proofs.Common.{◌≡◌, ℕ, ◌+◌, ◌-◌, true, List, [], ◌∷◌, ◌++◌, sym, refl, ap, ◌∙◌, subst, append-nil, add-zero, arith}
-use Rattle.life.specs.Disk.{Sector, Disk, All}
+use Rattle.life.specs.Disk.{Sector, Disk, AllByRecursion}
 use Rattle.life.specs.Log.{Newest}
 use Rattle.life.specs.Format.{Rec, Format, chain_items, slot}
 use Rattle.life.specs.Calls.{byte_at, Readable, effect, lays, blanks, Chain, Plan, counts, Session, replayed}
@@ -40,7 +40,7 @@ module _ (F : Format) (base : ℕ → Sector) (acc : List Entry) (d : Disk) (s :
 
       told : P.tile.tail ≡ s.t
       told = (all_right (λ r. r.tail ≡ s.t) B.done (P.tile ∷ B.rest)
-          (subst (λ (l : List Tile). All (λ r. r.tail ≡ s.t) l) (sym (append-nil (L.clearing ∷ L.counted)) ∙ B.split) L.tails)).0
+          (subst (λ (l : List Tile). AllByRecursion (λ r. r.tail ≡ s.t) l) (sym (append-nil (L.clearing ∷ L.counted)) ∙ B.split) L.tails)).0
 
       tl : s.t + width P.outcome.front ≡ s.t
       tl =

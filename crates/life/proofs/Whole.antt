@@ -1,6 +1,6 @@
 -- Each call and each cut keeps what holds of a volume, so every life has its account.
 use Rattle.std.proofs.Common.{◌≡◌, ℕ, zero, suc, ◌+◌, ◌-◌, ◌/◌, ◌%◌, ◌<◌, ◌≤◌, Bool, true, false, cond, ◌⊎◌, List, [], ◌∷◌, ◌++◌, Some, None, Option, sym, refl, ap, ◌∙◌, subst, inl, inr, append_assoc, append-nil, add-zero, arith}
-use Rattle.life.specs.Disk.{Sector, holds, Action, write, force, Disk, Whole, In, All, act, run, Cut}
+use Rattle.life.specs.Disk.{Sector, holds, Action, write, force, Disk, Whole, In, AllByRecursion, act, run, Cut}
 use Rattle.life.specs.Items.{open_ids}
 use Rattle.life.specs.Format.{Rec, size, Fits, Transaction, Format, all_items, chain_items, slot}
 use Rattle.life.specs.Calls.{byte, byte_at, Home, Sound, Readable, Inside, lays, blanks, puts, record_writes, Plan, replays}
@@ -54,8 +54,8 @@ dead_cut F base acc d f c D = record {
   last_tile = D.last_tile;
   at_a = D.at_a;
   current = λ j. subst (λ (l : List Sector). In (f.now j) l) (sym (c.same j)) (c.each j);
-  okay = λ x p q. subst (λ (l : List Sector). All (Okay F D.t D.tiles D.a x) l) (sym (c.same (slot F x))) (D.okay x p q);
-  free = λ l. subst (λ (l : List Sector). All (λ s. F.ring.pos (slot F D.u) s + F.ring.N ≡ D.u) l) (sym (c.same (slot F D.u))) (D.free l);
+  okay = λ x p q. subst (λ (l : List Sector). AllByRecursion (Okay F D.t D.tiles D.a x) l) (sym (c.same (slot F x))) (D.okay x p q);
+  free = λ l. subst (λ (l : List Sector). AllByRecursion (λ s. F.ring.pos (slot F D.u) s + F.ring.N ≡ D.u) l) (sym (c.same (slot F D.u))) (D.free l);
   outcomes = λ n e tile B lo hi. out e (D.outcomes n e tile B lo hi);
 }
   where
@@ -82,7 +82,7 @@ dead_cut F base acc d f c D = record {
       closed = O.closed;
       sound = O.sound;
       passes = O.passes;
-      claim = λ x hm na. subst (λ (l : List Sector). All (λ s. Holds (all_items F (transactions O.kept)) x (byte_at base x) (byte s (x % 512))) l) (sym (c.same (x / 512))) (O.claim x hm na);
+      claim = λ x hm na. subst (λ (l : List Sector). AllByRecursion (λ s. Holds (all_items F (transactions O.kept)) x (byte_at base x) (byte s (x % 512))) l) (sym (c.same (x / 512))) (O.claim x hm na);
     }
 
 -- Replay, by any plan.
@@ -190,12 +190,12 @@ force_step F base acc d s i = by i
 
 -- what is found is in bounds
 found_sound : (F : Format) (base : ℕ → Sector) (acc : List Entry) (d : Disk) → Dead F base acc d → (m h n e t : ℕ) (chain : List Rec) → Plan F d.now m h n e t chain →
-    All (Sound F) (chain_items F chain)
+    AllByRecursion (Sound F) (chain_items F chain)
 found_sound F base acc d D m h n e t chain p = go (planned F base acc d D)
   where
-    go : ((m : ℕ) × (h : ℕ) × (n : ℕ) × (e : ℕ) × Planned F base acc d D m h n e) → All (Sound F) (chain_items F chain)
+    go : ((m : ℕ) × (h : ℕ) × (n : ℕ) × (e : ℕ) × Planned F base acc d D m h n e) → AllByRecursion (Sound F) (chain_items F chain)
     go (m', h', n', e', P) =
-        subst (λ (l : List Rec). All (Sound F) (chain_items F l))
+        subst (λ (l : List Rec). AllByRecursion (Sound F) (chain_items F l))
         (plan_one F d.now m h n e t chain m' h' n' e' (D.t + width P.outcome.front) (tile_bodies (P.outcome.clearing ∷ P.outcome.counted)) p P.plan).ec
         P.outcome.sound
 
@@ -280,8 +280,8 @@ module _ (F : Format) (base : ℕ → Sector) (acc : List Entry) (d : Disk) (s :
           fits : Fits F.ring q e e
           fits = record { small = K.clearing.small; begun = omega (arith, L.turn, L.begun, L.low, ee); behind = omega arith; last = omega (arith, K.last, ee) }
 
-          full : (x : ℕ) → Home F (x / 512) → All (λ y. Holds (all_items F (transactions acc)) x (byte_at base x) (byte y (x % 512))) (d1.past (x / 512))
-          full x hm = subst (λ (l : List Sector). All (λ y. Holds (all_items F (transactions acc)) x (byte_at base x) (byte y (x % 512))) l) (sym (fixed F base acc d D m h n e P ready z (x / 512)))
+          full : (x : ℕ) → Home F (x / 512) → AllByRecursion (λ y. Holds (all_items F (transactions acc)) x (byte_at base x) (byte y (x % 512))) (d1.past (x / 512))
+          full x hm = subst (λ (l : List Sector). AllByRecursion (λ y. Holds (all_items F (transactions acc)) x (byte_at base x) (byte y (x % 512))) l) (sym (fixed F base acc d D m h n e P ready z (x / 512)))
               (subst (λ (l : List Entry). Holds (all_items F (transactions l)) x (byte_at base x) (byte_at d1.now x)) (sym acc_is) (holds_now F base acc d D m h n e P ready z x hm), tt)
 
           shut : open_ids (all_items F (transactions acc)) ≡ []
@@ -315,7 +315,7 @@ module _ (F : Format) (base : ℕ → Sector) (acc : List Entry) (d : Disk) (s :
       go : ((m : ℕ) × (h : ℕ) × (n : ℕ) × (e : ℕ) × Planned F base acc d D m h n e) →
           Inside F (clearings F d.now s.e chain q) × ClearLeaves s.e chain (run (clearings F d.now s.e chain q) d)
       go (m', h', n', e', P) = (
-        clear_inside F d.now s.e chain q (subst (λ (l : List Rec). All (Sound F) (chain_items F l)) same.ec P.outcome.sound) r,
+        clear_inside F d.now s.e chain q (subst (λ (l : List Rec). AllByRecursion (Sound F) (chain_items F l)) same.ec P.outcome.sound) r,
         subst (λ (k : ℕ). ClearLeaves k chain (run (clearings F d.now k chain q) d)) same.ee
             (subst (λ (l : List Rec). ClearLeaves e' l (run (clearings F d.now e' l q) d)) same.ec (clear_own m' h' n' e' P (subst (λ (l : List Rec). Readable d.now (chain_items F l)) (sym same.ec) r) same.ee same.et (same.ec ∙ is_chain))),
       )
@@ -354,7 +354,7 @@ pub record AtEnd {F : Format} {base : ℕ → Sector} {d : Disk} {o : Option Ses
   pub account : List Entry
   pub accounted : Account l account
   pub inv : Inv F base account d o
-  pub label : All (λ s. s ≡ holds F.label) (d.past 0)
+  pub label : AllByRecursion (λ s. s ≡ holds F.label) (d.past 0)
 
 -- the session that stands, if one does, is in order
 pub order : (F : Format) (base : ℕ → Sector) (acc : List Entry) (d : Disk) (o : Option Session) → Inv F base acc d o → (s : Session) → o ≡ Some s → Steady F s
@@ -368,7 +368,7 @@ lives {F} {base} (labelled d q l ok same) =
       account = [];
       accounted = refl;
       inv = label_dead F base q (on_label F q d).0 L same;
-      label = subst (λ (k : List Sector). All (λ s. s ≡ holds F.label) k) (sym (L.fixed 0)) (L.label, tt);
+      label = subst (λ (k : List Sector). AllByRecursion (λ s. s ≡ holds F.label) k) (sym (L.fixed 0)) (L.label, tt);
     }
 lives {F} {base} (cuts {d} {f} {o} l c) =
     let h = lives l in
@@ -376,7 +376,7 @@ lives {F} {base} (cuts {d} {f} {o} l c) =
       account = h.account;
       accounted = h.accounted;
       inv = dead_cut F base h.account d f c (inv_dead F base h.account d o h.inv);
-      label = subst (λ (k : List Sector). All (λ s. s ≡ holds F.label) k) (sym (c.same 0)) h.label;
+      label = subst (λ (k : List Sector). AllByRecursion (λ s. s ≡ holds F.label) k) (sym (c.same 0)) h.label;
     }
 lives {F} {base} (replay {d} {o} l {m} {h} {n} {e} {t} {chain} p r) =
     let i = lives l in
@@ -418,11 +418,11 @@ lives {F} {base} (forces {d} {s} l) =
     }
 
 -- the sectors of the log can be read
-pub log_whole : (F : Format) (base : ℕ → Sector) (acc : List Entry) (d : Disk) → Dead F base acc d → (x : ℕ) → All Whole (d.past (slot F x))
+pub log_whole : (F : Format) (base : ℕ → Sector) (acc : List Entry) (d : Disk) → Dead F base acc d → (x : ℕ) → AllByRecursion Whole (d.past (slot F x))
 log_whole F base acc d D x = go (rep F.ring D.b (x + 1) x (omega (arith, D.log.turn, D.log.begun, D.log.low, D.log.high)) (omega arith))
   where
-    go : ((y : ℕ) × (D.b ≤ y + F.ring.N) × (y < D.b) × (F.ring.slot y ≡ F.ring.slot x)) → All Whole (d.past (slot F x))
-    go (y, p, q, e) = subst (λ (i : ℕ). All Whole (d.past i)) e
+    go : ((y : ℕ) × (D.b ≤ y + F.ring.N) × (y < D.b) × (F.ring.slot y ≡ F.ring.slot x)) → AllByRecursion Whole (d.past (slot F x))
+    go (y, p, q, e) = subst (λ (i : ℕ). AllByRecursion Whole (d.past i)) e
         (all_map (Okay F D.t D.tiles D.a y) (λ s. Whole s) (d.past (slot F y)) (λ s z. z.whole) (D.okay y p q))
 
 -- a reading finds a chain on which every check passes

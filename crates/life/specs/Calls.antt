@@ -1,6 +1,6 @@
 -- What the calls decide and do: when commit, clear and replay act, and what they write. Assumes nothing.
 use Rattle.std.specs.Prelude.{◌≡◌, ℕ, zero, suc, ◌+◌, ◌-◌, ◌*◌, ◌/◌, ◌%◌, ◌<◌, ◌≤◌, true, cond, List, [], ◌∷◌, ◌++◌, length, replicate, Some, None, Option, ◌==◌, ◌≢◌, slice_index}
-use Rattle.life.specs.Disk.{Sector, holds, unreadable, Action, write, force, Whole, In, All, put, Writes}
+use Rattle.life.specs.Disk.{Sector, holds, unreadable, Action, write, force, Whole, In, AllByRecursion, put, Writes}
 use Rattle.life.specs.Items.{Item, patch, cancel, opens, closes, covered, Covers, applied, skipped, open_ids}
 use Rattle.life.specs.Log.{limit, at, Greatest, Coherent, Head, Newest}
 use Rattle.life.specs.Format.{Rec, size, Small, Fits, Transaction, Format, chain_items, sector, slot}
@@ -29,12 +29,12 @@ pub record Home (F : Format) (i : ℕ) : Type 0 where
 
 -- an item that commit accepts: it covers sectors of the volume's own, and each byte that it gives a value lies in one of them
 pub record Sound (F : Format) (i : Item) : Type 0 where
-  pub home : All (Home F) (covered i)
+  pub home : AllByRecursion (Home F) (covered i)
   pub within : (x : ℕ) → Covers i x → In (x / 512) (covered i)
 
 -- each sector that the items cover can be read
 abbrev pub Readable : (ℕ → Sector) → List Item → Type 0
-Readable c items = All (λ i. All (λ n. Whole (c n)) (covered i)) items
+Readable c items = AllByRecursion (λ i. AllByRecursion (λ n. Whole (c n)) (covered i)) items
 
 -- What is written.
 
@@ -175,7 +175,7 @@ pub record Commits (F : Format) (s : Session) (r : Rec) (x : Transaction) : Type
   pub small : Small F.ring r
   pub last : s.e + r.more < limit F.ring
   pub reads : F.reads (s.chain ++ (r ∷ [])) ≡ F.reads s.chain ++ (x ∷ [])
-  pub sound : All (Sound F) (F.items x)
+  pub sound : AllByRecursion (Sound F) (F.items x)
   pub passes : F.pass (s.chain ++ (r ∷ [])) ≡ true
 
 -- the session after it

@@ -1,6 +1,6 @@
 -- A device with what each sector has held since the last accepted force, runs of actions on it, and what a cut may leave. Assumes nothing.
 use Rattle.std.specs.Prelude.{◌≡◌, ℕ, zero, suc, Bool, true, false, cond, ◌⊎◌, List, [], ◌∷◌, length, ◌==◌}
-pub use Rattle.std.specs.List.{AllByRecursion as All}
+pub use Rattle.std.specs.List.{AllByRecursion}
 pub use Rattle.device.specs.State.{Sector, holds, unreadable}
 pub use Rattle.device.specs.Actions.{Action, write, force}
 

@@ -1,6 +1,6 @@
 -- Records, transactions, and what a format of records has to keep to. Assumes nothing.
 use Rattle.std.specs.Prelude.{◌≡◌, ℕ, suc, ◌+◌, ◌*◌, ◌<◌, ◌≤◌, Bool, true, List, [], ◌∷◌, ◌++◌, length, replicate}
-use Rattle.life.specs.Disk.{Sector, holds, All}
+use Rattle.life.specs.Disk.{Sector, holds, AllByRecursion}
 use Rattle.life.specs.Items.{Item}
 use Rattle.life.specs.Log.{Ring, limit}
 
@@ -22,7 +22,7 @@ pub record Small (g : Ring) (r : Rec) : Type 0 where
   pub some : 1 ≤ r.more
   pub most : 512 * r.more ≤ g.R
   pub whole : length r.payload ≡ 512 * r.more
-  pub bytes : All (λ b. b < 256) r.payload
+  pub bytes : AllByRecursion (λ b. b < 256) r.payload
 
 -- a record that can be written at position p with the tail t: past the first turn, not before its tail, and no sector of it in cycle 2^31
 pub record Fits (g : Ring) (r : Rec) (t p : ℕ) : Type 0 where

@@ -1,6 +1,6 @@
 -- Lives of a volume, the account of a life, and what is true in every life. Assumes nothing.
 use Rattle.std.specs.Prelude.{◌≡◌, ℕ, ◌/◌, Bool, true, false, cond, List, [], ◌∷◌, ◌++◌, Some, None, Option}
-use Rattle.life.specs.Disk.{Sector, holds, Disk, force, run, Cut, Whole, In, All}
+use Rattle.life.specs.Disk.{Sector, holds, Disk, force, run, Cut, Whole, In, AllByRecursion}
 use Rattle.life.specs.Items.{ByteHolds, Touched, open_ids, Open, Distinct}
 use Rattle.life.specs.Format.{Rec, Transaction, Format, all_items, chain_items, slot}
 use Rattle.life.specs.Calls.{byte_at, Home, Sound, Readable, Inside, record_writes, Plan, replays, Counts, counts, Session}
@@ -66,7 +66,7 @@ pub record Replayed (F : Format) (base : ℕ → Sector) (before after : List En
   pub kept : List Entry
   pub dropped : List Entry
   pub split : before ≡ kept ++ dropped
-  pub unsafe : All (λ x. x.safe ≡ false) dropped
+  pub unsafe : AllByRecursion (λ x. x.safe ≡ false) dropped
   pub now_safe : after ≡ secure kept
   -- the transactions that it read are the youngest of those kept, and its counts are theirs
   pub older : List Transaction
@@ -109,7 +109,7 @@ pub record Finds (F : Format) (c : ℕ → Sector) : Type 0 where
   pub chain : List Rec
   pub plan : Plan F c m h n e t chain
   pub passes : F.pass chain ≡ true
-  pub sound : All (Sound F) (chain_items F chain)
+  pub sound : AllByRecursion (Sound F) (chain_items F chain)
 
 -- A second replay found the same as the first, and left each byte and each log sector as it was.
 pub record Again (F : Format) (c c' : ℕ → Sector) (n e t : ℕ) (chain : List Rec) (n' e' t' : ℕ) (chain' : List Rec) : Type 0 where
@@ -124,8 +124,8 @@ pub record Lived {F : Format} {base : ℕ → Sector} {d : Disk} {o : Option Ses
   pub account : List Entry
   pub accounted : Account l account
   -- sector 0 has held nothing but the label, and the sectors of the log nothing that cannot be read
-  pub label : All (λ s. s ≡ holds F.label) (d.past 0)
-  pub log : (x : ℕ) → All Whole (d.past (slot F x))
+  pub label : AllByRecursion (λ s. s ≡ holds F.label) (d.past 0)
+  pub log : (x : ℕ) → AllByRecursion Whole (d.past (slot F x))
   -- a session that stands is in order
   pub steady : (s : Session) → o ≡ Some s → Steady F s
   -- a reading finds a chain on which every check passes

@@ -14,10 +14,10 @@ use Rattle.label.specs.Label.{label_of, limits}
 use Rattle.label.specs.Position.{cycle, log_sector}
 use Rattle.record.specs.Record.{is_header, held_cycle}
 use Rattle.model.specs.Refusals.{refusal, by_session, Outcome, ◌>>=◌, need, from_device}
-use Rattle.model.specs.View.{read_label, read_log, at, log_header, held, held_by, Found, seek_log}
+use Rattle.model.specs.View.{read_label, read_log, at, log_header, held, held_by, Found, search_log}
 use Rattle.model.specs.Reading.{Reading, read_chain}
 use Rattle.model.specs.Lay.{blanks}
-use Rattle.model.specs.Calls.{Session, Plan, Passed, sought, pass_one, Counts, counts, patches}
+use Rattle.model.specs.Calls.{Session, Plan, Passed, searched, pass_one, Counts, counts, patches}
 use Rattle.model.specs.Laws.{Searched, Sane, Steady, Whole, ReplaySteady}
 use Rattle.model.proofs.Outcomes.{need_ok, bind_ok, device_ok, read_held}
 use Rattle.model.proofs.Found.{search_says}
@@ -137,17 +137,17 @@ replay_steady d bank work p n w e m =
     let q : Q x.0 ≡ p = cc in
     let J₁ : Label × Found → Reading → Outcome Passed = λ y r. Ok (record { label = y.0; found = y.1; read = r }) in
     let J₀ : Label × Found → Outcome Passed = λ y. read_chain d y.0 bank y.1 >>= J₁ y in
-    let y = bind_ok (sought d) J₀ x.0 x.1 in
+    let y = bind_ok (searched d) J₀ x.0 x.1 in
     let r = bind_ok (read_chain d y.0.0 bank y.0.1) (J₁ y.0) x.0 y.2 in
     let X : Passed = record { label = y.0.0; found = y.0.1; read = r.0 } in
     let o₂ : Ok X ≡ Ok x.0 = r.2 in
     let q₂ : X ≡ x.0 = cc in
     let I₂ : Label → Found → Outcome (Label × Found) = λ L f. Ok (L, f) in
-    let I₁ : Label → List (List ℕ) → Outcome (Label × Found) = λ L log. seek_log L log >>= I₂ L in
+    let I₁ : Label → List (List ℕ) → Outcome (Label × Found) = λ L log. search_log L log >>= I₂ L in
     let I₀ : Label → Outcome (Label × Found) = λ L. read_log d L >>= I₁ L in
     let l = bind_ok (read_label d) I₀ y.0 y.1 in
     let g = bind_ok (read_log d l.0) (I₁ l.0) y.0 l.2 in
-    let f = bind_ok (seek_log l.0 g.0) (I₂ l.0) y.0 g.2 in
+    let f = bind_ok (search_log l.0 g.0) (I₂ l.0) y.0 g.2 in
     let pair : Label × Found = (l.0, f.0) in
     let o₃ : Ok pair ≡ Ok y.0 = f.2 in
     let q₃ : pair ≡ y.0 = cc in

@@ -3,7 +3,7 @@ use Rattle.std.proofs.Common.{◌≡◌, ℕ, zero, suc, ◌+◌, ◌-◌, ◌<�
 use Rattle.std.proofs.lemmas.List.{take-map, map-append, length-map}
 use Rattle.std.proofs.lemmas.Bool.{and_parts, leb-true, lt-ltb}
 use Rattle.std.proofs.ByRecursion.{All-append, All-map, All-weaker}
-use Rattle.std.specs.List.{AllByRecursion as All}
+use Rattle.std.specs.List.{AllByRecursion}
 use Rattle.model.specs.Refusals.{refusal, by_transaction, by_item, Outcome, ◌>>=◌, need, from_device}
 use Rattle.codec.specs.Fields.{le16}
 use Rattle.device.specs.State.{DevState, sector_at}
@@ -18,13 +18,13 @@ use Rattle.model.specs.Laws.{AllReadable, located, meanings, ChecksAgain}
 
 -- Each item.
 
-below : (c : List (Option ℕ)) (k n : ℕ) → All (λ j. j < k + n) (covered_from c k n)
+below : (c : List (Option ℕ)) (k n : ℕ) → AllByRecursion (λ j. j < k + n) (covered_from c k n)
 below c k zero = tt
 below c k (suc n) =
     All-append (λ j. j < k + suc n) (cond (gives_any (cover_of c k)) (k ∷ []) []) (covered_from c (k + 1) n) (go (gives_any (cover_of c k)))
     (All-weaker (λ j. j < k + 1 + n) (λ j. j < k + suc n) (λ j h. omega arith) (covered_from c (k + 1) n) (below c (k + 1) n))
   where
-    go : (t : Bool) → All (λ j. j < k + suc n) (cond t (k ∷ []) [])
+    go : (t : Bool) → AllByRecursion (λ j. j < k + suc n) (cond t (k ∷ []) [])
     go true = (omega arith, tt)
     go false = tt
 
@@ -32,7 +32,7 @@ within : (L : Label) (size : ℕ) (z : ℤ) (n : ℕ) → in_bounds L size z n �
 within L size (pos m) n e = leb-true (m + n) size (and_parts (leb 1 m) (leb (m + n) size) (and_parts (leb 1 m && leb (m + n) size) (leb (m + n) L.start || leb (L.start + L.count) m) e).0).1
 within L size (negsuc m) n e = let z : ◌≡◌ {A = ℕ} 0 1 = cc in omega arith
 
-reads_all : (d : DevState) → AllReadable d → (is : List ℕ) → All (λ i. i < d.size) is → all_readable d is ≡ Ok tt
+reads_all : (d : DevState) → AllReadable d → (is : List ℕ) → AllByRecursion (λ i. i < d.size) is → all_readable d is ≡ Ok tt
 reads_all d f [] a = refl
 reads_all d f (i ∷ is) a =
     ap (λ t. from_device (cond t (readable i (sector_at d i)) (Err (fault Beyond i))) >>= λ _. all_readable d is) (lt-ltb i d.size a.0)
@@ -58,7 +58,7 @@ module _ (d d' : DevState) (L : Label) (same : d.size ≡ d'.size) (f : AllReada
       go true q e =
           let q' : in_bounds L d'.size k.sector k.length ≡ true = ap (λ n. in_bounds L n k.sector k.length) (sym same) ∙ q in
           let w : first_sector k.sector + k.length ≤ d'.size = within L d'.size k.sector k.length q' in
-          let a : All (λ i. i < d'.size) (covered k c) =
+          let a : AllByRecursion (λ i. i < d'.size) (covered k c) =
           All-map (λ i. i < d'.size) (λ j. first_sector k.sector + j) (covered_from c 0 k.length)
           (All-weaker (λ j. j < 0 + k.length) (λ j. first_sector k.sector + j < d'.size) (λ j h. omega arith) (covered_from c 0 k.length) (below c 0 k.length)) in
           ap (λ t. need t (refusal 13 by_item s' y') >>= λ _. all_readable d' (covered k c) >>= λ _. Ok b) q'

@@ -3,7 +3,7 @@ use Rattle.std.proofs.Common.{◌≡◌, ℕ, ◌+◌, ◌*◌, ◌%◌, ◌<◌
 use Rattle.std.proofs.lemmas.List.{length-append}
 use Rattle.std.proofs.ByRecursion.{All-weaker}
 use Rattle.std.proofs.lemmas.Bool.{not-true, ltb-false, leb-true, leb-false}
-use Rattle.std.specs.List.{AllByRecursion as All}
+use Rattle.std.specs.List.{AllByRecursion}
 use Rattle.model.specs.Refusals.{refusal, by_transaction, by_session, Outcome, ◌>>=◌, need}
 use Rattle.codec.specs.Fields.{Bytes, le32_bytes, joined}
 use Rattle.codec.proofs.Allbytes.{bytes_append, bytes_take, bytes_drop, bytes_le}
@@ -23,7 +23,7 @@ use Rattle.model.proofs.Outcomes.{need_ok, bind_ok}
 abbrev regions : ℕ → List (List ℕ) → List ℕ
 regions number rs = joined (map (λ r. op_bytes number 0x69 0x00 r) rs)
 
-bytes_regions : (number : ℕ) (rs : List (List ℕ)) → All Bytes rs → Bytes (regions number rs)
+bytes_regions : (number : ℕ) (rs : List (List ℕ)) → AllByRecursion Bytes rs → Bytes (regions number rs)
 bytes_regions number [] a = tt
 bytes_regions number (r ∷ rs) a = bytes_append (op_bytes number 0x69 0x00 r) (regions number rs) (bytes_op number 0x69 0x00 r (lit< tt) (lit< tt) a.0) (bytes_regions number rs a.1)
 
@@ -33,7 +33,7 @@ bytes_first number items =
     (bytes_append (le32_bytes 0x5452414E ++ le32_bytes 40) (le32_bytes number)
     (bytes_append (le32_bytes 0x5452414E) (le32_bytes 40) (bytes_le 4 0x5452414E) (bytes_le 4 40)) (bytes_le 4 number)) (bytes_le 4 items)
 
-bytes_commit : (number items : ℕ) (rs : List (List ℕ)) → All Bytes rs → Bytes (commit_ops number items rs)
+bytes_commit : (number items : ℕ) (rs : List (List ℕ)) → AllByRecursion Bytes rs → Bytes (commit_ops number items rs)
 bytes_commit number items rs a =
     let S : List ℕ = op_bytes number 0x69 0x01 [] in
     let F : List ℕ = op_bytes number 0x69 0x00 (first_region number items) in
@@ -43,12 +43,12 @@ bytes_commit number items rs a =
     (bytes_regions number rs a))
     (bytes_op number 0x69 0x02 [] (lit< tt) (lit< tt) tt)
 
-bytes_given : (b : List ℕ) (qs : List (ℕ × ℕ)) → Bytes b → All Bytes (region_bytes b qs)
+bytes_given : (b : List ℕ) (qs : List (ℕ × ℕ)) → Bytes b → AllByRecursion Bytes (region_bytes b qs)
 bytes_given b [] a = tt
 bytes_given b (q ∷ qs) a = (bytes_take q.1 (drop q.0 b) (bytes_drop q.0 b a), bytes_given b qs a)
 
 -- no region is longer than all ops together, nor are there more regions than bytes
-long_regions : (number : ℕ) (rs : List (List ℕ)) → (All (λ b. length b ≤ length (regions number rs)) rs) × (length rs ≤ length (regions number rs))
+long_regions : (number : ℕ) (rs : List (List ℕ)) → (AllByRecursion (λ b. length b ≤ length (regions number rs)) rs) × (length rs ≤ length (regions number rs))
 long_regions number [] = (tt, omega arith)
 long_regions number (r ∷ rs) =
     let l = length-append (op_bytes number 0x69 0x00 r) (regions number rs) in

@@ -7,7 +7,7 @@ use Rattle.label.specs.declared.label.Label.{Label}
 use Rattle.label.specs.Position.{log_sector, volume_sector}
 use Rattle.record.specs.declared.header.RecordHeader.{RecordHeader}
 use Rattle.record.specs.Record.{is_header, held_cycle, sound, end_of}
-use Rattle.model.specs.View.{at, log_header, tail_of, held_by, held, greatest, due, in_order, coherent_from, coherent, first_free, head, stops, newest_of, newest, tail_stands, Found, ended, seek_log}
+use Rattle.model.specs.View.{at, log_header, tail_of, held_by, held, greatest, due, in_order, coherent_from, coherent, first_free, head, stops, newest_of, newest, tail_stands, Found, ended, search_log}
 use Rattle.model.specs.Laws.{Searched, SearchFinds}
 use Rattle.model.proofs.Found.{top, most, long}
 
@@ -126,7 +126,7 @@ module _ (L : Label) (f : Found) (w : 1 ≤ L.window) (two : 2 * L.window ≤ L.
       ap (λ v. need v (refusal 8 by_record (volume_sector L f.n) 0) >>= λ _. Ok (G (end_of b f.n) t)) k
       ∙ ap (λ e. Ok (G e t)) (sym S.end) ∙ ap (λ t. Ok (G f.e t)) (sym S.tail)
 
-  finds : seek_log L f.log ≡ Ok f
+  finds : search_log L f.log ≡ Ok f
   finds =
       let T : ℕ → ℕ → ℕ → Outcome Found = λ m k j. coherent_from L f.log m 0 L.count >>= λ _. newest L f.log k j >>= λ n. ended L f.log k j n in
       ap (λ m. T m m (head L f.log m)) same_top

@@ -2,7 +2,7 @@
 use Rattle.std.proofs.Common.{◌≡◌, ℕ, suc, ◌+◌, ◌*◌, ◌<◌, ◌≤◌, ◌⊎◌, List, [], ◌∷◌, ◌++◌, length, get_or, take, drop, Ok, Err, sym, refl, ap, ◌∙◌, subst, inl, inr, mod-lt, arith, lit≤}
 use Rattle.std.proofs.lemmas.List.{take-append-drop, drop_more, length-take-le}
 use Rattle.std.proofs.lemmas.Bool.{cases_lt}
-use Rattle.std.specs.List.{AllByRecursion as All}
+use Rattle.std.specs.List.{AllByRecursion}
 use Rattle.device.specs.State.{DevState, sector_at}
 use Rattle.device.specs.Steps.{Answer, refusal}
 use Rattle.device.specs.Actions.{Action, force, run}
@@ -39,7 +39,7 @@ ran {A} {S} (Ok p) s d v e = go (run p.actions d).answer refl e
     go (Err x) q e = let z : ◌≡◌ {A = ℕ} 0 1 = cc in let y : ⊥ = omega arith in elim y [ ]
 
 -- a run that is not refused leaves what its actions say
-done_all : (acts : List Action) (d : DevState) → All (Inside d.size) acts → (run acts d).answer ≡ Ok tt → (run acts d).after ≡ after_all acts d
+done_all : (acts : List Action) (d : DevState) → AllByRecursion (Inside d.size) acts → (run acts d).answer ≡ Ok tt → (run acts d).after ≡ after_all acts d
 done_all acts d a e = go (cases_lt d.actions (length acts))
   where
     go : (d.actions < length acts) ⊎ (length acts ≤ d.actions) → (run acts d).after ≡ after_all acts d
@@ -53,7 +53,7 @@ done_all acts d a e = go (cases_lt d.actions (length acts))
         let z : ◌≡◌ {A = ℕ} 0 1 = cc in
         let y : ⊥ = omega arith in elim y [ ]
 
-inside_record : (L : Label) (size x : ℕ) (secs : List (List ℕ)) → 1 ≤ L.count → L.start + L.count ≤ size → All (Inside size) (record_writes L x secs)
+inside_record : (L : Label) (size x : ℕ) (secs : List (List ℕ)) → 1 ≤ L.count → L.start + L.count ≤ size → AllByRecursion (Inside size) (record_writes L x secs)
 inside_record L size x [] p h = tt
 inside_record L size x (b ∷ secs) p h = (let i : log_sector L x < L.count = mod-lt x p in omega (arith, i), inside_record L size (x + 1) secs p h)
 

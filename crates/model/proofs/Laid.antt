@@ -2,7 +2,7 @@
 use Rattle.std.proofs.Common.{◌≡◌, ℕ, zero, suc, ◌+◌, ◌-◌, ◌*◌, ◌/◌, ◌%◌, ◌<◌, ◌≤◌, Bool, true, false, cond, leb, ◌⊎◌, List, [], ◌∷◌, ◌++◌, map, length, get_or, take, drop, set, Some, None, Option, sym, refl, ap, ◌∙◌, subst, inl, inr, zero-le, arith}
 use Rattle.std.proofs.lemmas.List.{get_or-take, get_or-drop, get_or-set_same, get_or-set_other, get_or_past, length-set, drop_all}
 use Rattle.std.proofs.lemmas.Bool.{both_ways, cases_lt, cases_eq, le-leb, lt-leb, cond-true, cond-false}
-use Rattle.std.specs.List.{AllByRecursion as All}
+use Rattle.std.specs.List.{AllByRecursion}
 use Rattle.device.specs.State.{Sector, holds, unreadable, bytes_of}
 use Rattle.device.specs.Actions.{Action, write, force, effect}
 use Rattle.model.specs.Items.{Patch, covered_from, cover_of, gives_any}
@@ -197,7 +197,7 @@ full_writes p c e k (suc n) i f g =
           length_overlay (cover_of p.cover k) b ∙ l,
         )
 
-ready_after : (p : Patch) (c : List Sector) (ps : List Patch) → All (Ready c) ps → All (Ready (effect (patch_writes p c) c)) ps
+ready_after : (p : Patch) (c : List Sector) (ps : List Patch) → AllByRecursion (Ready c) ps → AllByRecursion (Ready (effect (patch_writes p c) c)) ps
 ready_after p c [] a = tt
 ready_after p c (q ∷ ps) a =
     (record { whole = a.0.whole; readable = λ j t. full_writes p c c 0 p.key.length (start_of q + j) (a.0.readable j t) (a.0.readable j t) }, ready_after p c ps a.1)
@@ -209,11 +209,11 @@ lays_bytes (p ∷ ps) c a x =
     ∙ lays_bytes ps (effect (patch_writes p c) c) (ready_after p c ps a.1) x
     ∙ ap (laid ps x) (patch_byte p c a.0 x)
 
-laid_bare : (ps : List Patch) (x v : ℕ) → All (λ p. given p x ≡ None) ps → laid ps x v ≡ v
+laid_bare : (ps : List Patch) (x v : ℕ) → AllByRecursion (λ p. given p x ≡ None) ps → laid ps x v ≡ v
 laid_bare [] x v a = refl
 laid_bare (p ∷ ps) x v a = ap (λ o. laid ps x (give o v)) a.0 ∙ laid_bare ps x v a.1
 
-laid_last : (front rest : List Patch) (p : Patch) (x v w : ℕ) → given p x ≡ Some w → All (λ q. given q x ≡ None) rest → laid (front ++ (p ∷ rest)) x v ≡ w
+laid_last : (front rest : List Patch) (p : Patch) (x v w : ℕ) → given p x ≡ Some w → AllByRecursion (λ q. given q x ≡ None) rest → laid (front ++ (p ∷ rest)) x v ≡ w
 laid_last [] rest p x v w e a = ap (λ o. laid rest x (give o v)) e ∙ laid_bare rest x w a
 laid_last (q ∷ front) rest p x v w e a = laid_last front rest p x (give (given q x) v) w e a
 

@@ -2,7 +2,7 @@
 use Rattle.std.proofs.Common.{◌≡◌, ℕ, suc, ◌+◌, ◌<◌, ◌≤◌, Bool, true, false, cond, ◌&&◌, leb, List, [], ◌∷◌, ◌++◌, map, length, get_or, take, drop, Some, None, Ok, Err, sym, refl, ap, ◌∙◌, add_assoc, arith, lit<}
 use Rattle.std.proofs.lemmas.List.{length-append, length-drop, take_at, drop_at, drop-drop, get_or-drop, append_assoc, append-nil}
 use Rattle.std.proofs.lemmas.Bool.{eq-eqb, le-leb, and_from}
-use Rattle.std.specs.List.{AllByRecursion as All}
+use Rattle.std.specs.List.{AllByRecursion}
 use Rattle.model.specs.Refusals.{refusal, by_transaction, Outcome, ◌>>=◌, need}
 use Rattle.codec.specs.Fields.{be32, le32, be32_bytes, le32_bytes, part, joined}
 use Rattle.model.specs.Ops.{start, region, Op, sort_of, sorted, op_at, after_op, op_bytes}
@@ -81,7 +81,7 @@ module _ (d : DevState) (L : Label) (bank : Bank) (sector number : ℕ) (low : n
   region_step at x S =
       ap (λ t. brings true true (whole number sector at x) (cond t (Some 0) None) (opened r number f S)) (eq-eqb number number refl)
 
-  regions_read : (b : List ℕ) (rs : List (List ℕ)) (at n m : ℕ) (S : List Op) (rest : List ℕ) → n ≡ length rs + m → All (λ x. length x < 4294967296) rs →
+  regions_read : (b : List ℕ) (rs : List (List ℕ)) (at n m : ℕ) (S : List Op) (rest : List ℕ) → n ≡ length rs + m → AllByRecursion (λ x. length x < 4294967296) rs →
       drop at b ≡ joined (map (λ x. op_bytes number 0x69 0x00 x) rs) ++ rest →
       (read_ops d L bank sector b at n (opened r number f S)
       ≡ read_ops d L bank sector b (after_regions at rs) m (opened r number f (S ++ region_ops number sector at rs)))

@@ -11,7 +11,7 @@ use Rattle.model.specs.View.{Found}
 use Rattle.model.specs.Items.{Book}
 use Rattle.model.specs.Reading.{Reading, read_chain}
 use Rattle.model.specs.Lay.{record_writes}
-use Rattle.model.specs.Calls.{Session, Plan, finished, acted, clearing, sought, patches, region_bytes, end_after, lengthened, worn_out, commit_plan, settles, same_log, cleared, clear_plan}
+use Rattle.model.specs.Calls.{Session, Plan, finished, acted, clearing, searched, patches, region_bytes, end_after, lengthened, worn_out, commit_plan, settles, same_log, cleared, clear_plan}
 use Rattle.model.specs.Laws.{Steady, ops_of, SteadyKept}
 use Rattle.model.proofs.Outcomes.{need_ok, bind_ok}
 use Rattle.model.proofs.Commits.{commit_says}
@@ -59,7 +59,7 @@ after_clear d s bank work p w e =
     let K₆ : Reading → Outcome (Plan (Unit {0}) Session) = λ r. Ok (P r) in
     let K₅ : Label × Found → Unit {0} → Outcome (Plan (Unit {0}) Session) = λ x _. read_chain d x.0 bank x.1 >>= K₆ in
     let K₄ : Label × Found → Outcome (Plan (Unit {0}) Session) = λ x. need (same_log s x.0 x.1) (refusal 8 by_record 0 0) >>= K₅ x in
-    let K₃ : Unit {0} → Outcome (Plan (Unit {0}) Session) = λ _. sought d >>= K₄ in
+    let K₃ : Unit {0} → Outcome (Plan (Unit {0}) Session) = λ _. searched d >>= K₄ in
     let K₂ : Unit {0} → Outcome (Plan (Unit {0}) Session) = λ _. need (leb (s.e + 2) (s.t + s.label.count)) (refusal 17 by_session 0 0) >>= K₃ in
     let K₁ : Unit {0} → Outcome (Plan (Unit {0}) Session) = λ _. need (not (worn_out s.label (s.e + 1))) (refusal 19 by_session 0 0) >>= K₂ in
     let K₀ : Unit {0} → Outcome (Plan (Unit {0}) Session) = λ _. need (eqb (length s.book.intents) 0) (refusal 18 by_session 0 0) >>= K₁ in
@@ -67,7 +67,7 @@ after_clear d s bank work p w e =
     let e₁ = need_ok (eqb (length s.book.intents) 0) (refusal 18 by_session 0 0) K₁ p e₀.1 in
     let e₂ = need_ok (not (worn_out s.label (s.e + 1))) (refusal 19 by_session 0 0) K₂ p e₁.1 in
     let e₃ = need_ok (leb (s.e + 2) (s.t + s.label.count)) (refusal 17 by_session 0 0) K₃ p e₂.1 in
-    let x = bind_ok (sought d) K₄ p e₃.1 in
+    let x = bind_ok (searched d) K₄ p e₃.1 in
     let e₄ = need_ok (same_log s x.0.0 x.0.1) (refusal 8 by_record 0 0) (K₅ x.0) p x.2 in
     let r = bind_ok (read_chain d x.0.0 bank x.0.1) K₆ p e₄.1 in
     let o : Ok (P r.0) ≡ Ok p = r.2 in

@@ -9,7 +9,7 @@ use Rattle.label.specs.declared.label.Label.{Label}
 use Rattle.label.specs.Label.{label_bytes, limits}
 use Rattle.label.specs.Position.{cycle, log_sector, volume_sector}
 use Rattle.record.specs.Record.{packed, sectors_for}
-use Rattle.model.specs.View.{read_label, read_log, seek_log, Found}
+use Rattle.model.specs.View.{read_label, read_log, search_log, Found}
 use Rattle.item.specs.Meaning.{Bank}
 use Rattle.model.specs.Items.{Region, items_after, Book, empty_book, committing, check_all, replay_order, applied, skipped}
 use Rattle.model.specs.Ops.{op_bytes}
@@ -87,12 +87,12 @@ pub record Passed : Type 0 where
   pub read : Reading
 
 -- the label, the log, and what is found in it
-abbrev pub sought : DevState → Outcome (Label × Found)
-sought d = read_label d >>= λ L. read_log d L >>= λ log. seek_log L log >>= λ f. Ok (L, f)
+abbrev pub searched : DevState → Outcome (Label × Found)
+searched d = read_label d >>= λ L. read_log d L >>= λ log. search_log L log >>= λ f. Ok (L, f)
 
 -- all refusals of a replay but 2, in order
 abbrev pub pass_one : DevState → Bank → Outcome Passed
-pass_one d bank = sought d >>= λ x. read_chain d x.0 bank x.1 >>= λ r. Ok (record { label = x.0; found = x.1; read = r })
+pass_one d bank = searched d >>= λ x. read_chain d x.0 bank x.1 >>= λ r. Ok (record { label = x.0; found = x.1; read = r })
 
 -- what replay answers besides a session: records from the tail, transactions, patches applied and skipped, open intents
 pub record Counts : Type 0 where
@@ -117,7 +117,7 @@ abbrev pub patches : DevState → Reading → List Action
 patches d r = lays (applied (all_items r.done)) d.contents
 
 -- 4 for a short work buffer, then the refusals of pass one. Force; the patches; blanks on the positions from e to M that are held;
--- force. seek_log found e at most h, and h at most M + 1, so M + 1 - e cuts nothing off
+-- force. search_log found e at most h, and h at most M + 1, so M + 1 - e cuts nothing off
 abbrev pub replay_plan : DevState → Bank → ℕ → Outcome (Plan Counts (Option Session))
 replay_plan d bank work =
     need (nat_le 65536 work) (refusal 4 by_session 0 0) >>= λ _.
@@ -245,14 +245,14 @@ same_log s L f = same_label L s.label && f.e == s.e && f.t == s.t
 abbrev pub cleared : Session → Session
 cleared s = record { label = s.label; e = s.e + 2; t = s.e; a = s.e + 2; newest = log_sector s.label s.e; book = empty_book }
 
--- 4, 18, 19, 17, then as replay, with 8 after seek_log where the log is not the session's; force; the patches; force; the clearing record; force
+-- 4, 18, 19, 17, then as replay, with 8 after search_log where the log is not the session's; force; the patches; force; the clearing record; force
 abbrev pub clear_plan : DevState → Session → Bank → ℕ → Outcome (Plan (Unit {0}) Session)
 clear_plan d s bank work =
     need (nat_le 65536 work) (refusal 4 by_session 0 0) >>= λ _.
     need (length s.book.intents == 0) (refusal 18 by_session 0 0) >>= λ _.
     need (not (worn_out s.label (s.e + 1))) (refusal 19 by_session 0 0) >>= λ _.
     need (nat_le (s.e + 2) (s.t + s.label.count)) (refusal 17 by_session 0 0) >>= λ _.
-    sought d >>= λ x.
+    searched d >>= λ x.
     need (same_log s x.0 x.1) (refusal 8 by_record 0 0) >>= λ _.
     read_chain d x.0 bank x.1 >>= λ r.
     Ok (record {

@@ -11,7 +11,7 @@ use Rattle.item.specs.Buffer.{buffer_meaning}
 use Rattle.item.specs.Built.{built}
 use Rattle.model.specs.Items.{empty_book}
 use Rattle.model.specs.Laws.{Steady}
-use Rattle.model.specs.Calls.{Session, Left, Counts, label_call, sought, replay_plan, replay_call, commit_call, commit_ops, force_call, clear_plan, clear_call}
+use Rattle.model.specs.Calls.{Session, Left, Counts, label_call, searched, replay_plan, replay_call, commit_call, commit_ops, force_call, clear_plan, clear_call}
 
 -- The volume.
 
@@ -67,7 +67,7 @@ patch_8 v = (chunk_0 8 v, patch_regions)
 
 -- M, h, e and t as they are found
 abbrev pub told : DevState → Outcome (List ℕ)
-told d = sought d >>= λ x. Ok (x.1.M ∷ x.1.h ∷ x.1.e ∷ x.1.t ∷ [])
+told d = searched d >>= λ x. Ok (x.1.M ∷ x.1.h ∷ x.1.e ∷ x.1.t ∷ [])
 
 -- The cases.
 

@@ -1,6 +1,6 @@
 -- What the definitions give together, in words: records that are written are read back, what is found in a log, what runs and patches leave. Assumes nothing.
 use Rattle.std.specs.Prelude.{◌≡◌, ℕ, zero, suc, ◌+◌, ◌-◌, ◌*◌, ◌/◌, ◌%◌, ◌<◌, ◌≤◌, true, false, cond, ◌⊎◌, List, [], ◌∷◌, ◌++◌, map, length, Some, None, Ok, Option, ◌≢◌, nat_le, slice_index, slice_index_or}
-use Rattle.std.specs.List.{AllByRecursion as All}
+use Rattle.std.specs.List.{AllByRecursion}
 use Rattle.codec.specs.Fields.{Bytes, zeros, joined}
 use Rattle.device.specs.State.{DevState, Sector, sector_at, holds, unreadable, bytes_of}
 use Rattle.device.specs.Steps.{read, reads}
@@ -13,7 +13,7 @@ use Rattle.model.specs.Refusals.{◌>>=◌}
 use Rattle.model.specs.Lay.{give, lays, record_writes}
 use Rattle.model.specs.Items.{Patch, first_sector, gives_any, cover_of, Region, Item, Book, items_after, replay_order, check_all, reading, committing, verdict, meant}
 use Rattle.model.specs.Ops.{Op, start, commit, region, idle}
-use Rattle.model.specs.View.{read_log, at, log_header, held, held_by, tail_of, Found, seek_log}
+use Rattle.model.specs.View.{read_log, at, log_header, held, held_by, tail_of, Found, search_log}
 use Rattle.model.specs.Reading.{Reading, saw, joins, counted, data_sectors, read_ops, read_record, read_records}
 use Rattle.model.specs.Calls.{Session, Plan, Counts, replay_plan, clearing, first_region, commit_ops, placed, number_of, end_after, region_bytes, lengthened, commit_plan, commit_call, force_call, clear_call}
 
@@ -94,7 +94,7 @@ having_seen r os = record { records = r.records; seen = r.seen ++ os; pending = 
 -- the ops that commit writes are read as one transaction of just the regions it was given
 abbrev pub OpsRead : Type 0
 OpsRead = (d : DevState) (L : Label) (bank : Bank) (sector number items : ℕ) (rs : List (List ℕ)) (rest : List ℕ) (r : Reading) →
-    number < 4294967296 → All (λ b. length b < 4294967296) rs → r.pending ≡ [] →
+    number < 4294967296 → AllByRecursion (λ b. length b < 4294967296) rs → r.pending ≡ [] →
     read_ops d L bank sector (commit_ops number items rs ++ rest) 0 (3 + length rs) r
     ≡ (items_after 0 (located sector 40 rs) >>= λ is.
     check_all reading d L bank (replay_order bank is) r.book >>= λ b.
@@ -123,7 +123,7 @@ HeldStand = (d : DevState) (L : Label) (log : List (List ℕ)) (x : ℕ) (secs :
 -- where the record that commit builds stands in a log and ends by e, reading it is reading one transaction of just the regions that commit was given
 abbrev pub CommitRead : Type 0
 CommitRead = (d : DevState) (L : Label) (bank : Bank) (log : List (List ℕ)) (e x tail previous number items : ℕ) (rs : List (List ℕ)) (r : Reading) →
-    Sane L → Fits L x tail previous (3 + length rs) (commit_ops number items rs) → number < 4294967296 → All (λ b. length b < 4294967296) rs →
+    Sane L → Fits L x tail previous (3 + length rs) (commit_ops number items rs) → number < 4294967296 → AllByRecursion (λ b. length b < 4294967296) rs →
     r.pending ≡ [] → Stand L log x (packed L x tail previous (3 + length rs) (commit_ops number items rs)) →
     x + 1 + sectors_for (length (commit_ops number items rs)) ≤ e →
     read_record d L bank log e x r
@@ -187,7 +187,7 @@ pub record Commits (d : DevState) (s : Session) (bank : Bank) (rs : List (List �
   pub framed : items_after 0 (placed (volume_sector s.label s.e) 0 rs) ≡ Ok is
   pub checked : check_all committing d s.label bank (replay_order bank is) s.book ≡ Ok book
   pub fits : Fits s.label s.e s.t s.newest (3 + length rs) (ops_of s rs (length is))
-  pub small : All (λ b. length b < 4294967296) rs
+  pub small : AllByRecursion (λ b. length b < 4294967296) rs
   pub window : end_after s.e (ops_of s rs (length is)) ≤ s.a + s.label.window
   pub room : end_after s.e (ops_of s rs (length is)) + 2 + 2 * length book.intents ≤ s.t + s.label.count
   pub plan : p ≡ record {
@@ -227,13 +227,13 @@ pub record Searched (L : Label) (f : Found) : Type 0 where
 
 -- so it is for every log that is not refused
 abbrev pub SearchSays : Type 0
-SearchSays = (L : Label) (log : List (List ℕ)) (f : Found) → 1 ≤ L.window → 2 * L.window ≤ L.count → seek_log L log ≡ Ok f → (f.log ≡ log) × Searched L f
+SearchSays = (L : Label) (log : List (List ℕ)) (f : Found) → 1 ≤ L.window → 2 * L.window ≤ L.count → search_log L log ≡ Ok f → (f.log ≡ log) × Searched L f
 
 -- and where these words are true, no cycle is too high and the tail's sector is on the log, just that is found
 abbrev pub SearchFinds : Type 0
 SearchFinds = (L : Label) (f : Found) → 1 ≤ L.window → 2 * L.window ≤ L.count → Searched L f →
     ((i : ℕ) → i < L.count → held_cycle (slice_index_or f.log i []) < 2147483648) → (log_header L f.log f.n).tail.1 < L.count →
-    seek_log L f.log ≡ Ok f
+    search_log L f.log ≡ Ok f
 
 -- byte x of the volume
 abbrev pub byte_at : List Sector → ℕ → ℕ
@@ -260,12 +260,12 @@ pub record Ready (c : List Sector) (p : Patch) : Type 0 where
 
 -- laying changes each byte as the patches that cover it say, the last one last, and no other byte
 abbrev pub LaysBytes : Type 0
-LaysBytes = (ps : List Patch) (c : List Sector) → All (Ready c) ps → (x : ℕ) → byte_at (effect (lays ps c) c) x ≡ laid ps x (byte_at c x)
+LaysBytes = (ps : List Patch) (c : List Sector) → AllByRecursion (Ready c) ps → (x : ℕ) → byte_at (effect (lays ps c) c) x ≡ laid ps x (byte_at c x)
 
 -- the same in words: a byte that no patch gives a value keeps its own; another has the value of the last patch that gives it one
 pub record LaidWords (ps : List Patch) (x v : ℕ) : Type 0 where
-  pub bare : All (λ p. given p x ≡ None) ps → laid ps x v ≡ v
-  pub last : (front rest : List Patch) (p : Patch) (w : ℕ) → ps ≡ front ++ (p ∷ rest) → given p x ≡ Some w → All (λ q. given q x ≡ None) rest → laid ps x v ≡ w
+  pub bare : AllByRecursion (λ p. given p x ≡ None) ps → laid ps x v ≡ v
+  pub last : (front rest : List Patch) (p : Patch) (w : ℕ) → ps ≡ front ++ (p ∷ rest) → given p x ≡ Some w → AllByRecursion (λ q. given q x ≡ None) rest → laid ps x v ≡ w
 
 -- so it is for all patches
 abbrev pub LaidSays : Type 0
@@ -322,7 +322,7 @@ pub record ModelLaws : Type 0 where
   pub leaves : CommitLeaves
   pub steady : SteadyKept
   pub begins : ReplaySteady
-  pub seeks : SearchSays
+  pub search : SearchSays
   pub finds : SearchFinds
   pub lays_each : LaysBytes
   pub laid_last : LaidSays

@@ -188,7 +188,7 @@ read_records d L bank log e x (suc n) r =
     cond (nat_le e x) (Ok r)
     (read_record d L bank log e x r >>= λ r'. read_records d L bank log e (end_of (log_header L log x) x) n r')
 
--- the chain from t to e; a record takes at least one position, and seek_log found t < e, so nothing is cut off
+-- the chain from t to e; a record takes at least one position, and search_log found t < e, so nothing is cut off
 abbrev pub read_chain : DevState → Label → Bank → Found → Outcome Reading
 read_chain d L bank f = read_records d L bank f.log f.e f.t (f.e - f.t) begun
 

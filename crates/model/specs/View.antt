@@ -80,7 +80,7 @@ head L log M = first_free L log (M + 1 - L.window) L.window
 abbrev pub stops : Label → List (List ℕ) → ℕ → ℕ → Bool
 stops L log h x = is_header (at L log x) && (not (sound L (log_header L log x) x) || nat_le (end_of (log_header L log x) x) h)
 
--- the newest record's position among n positions from low on, sought from the last back: 7 at a header that is not sound, 6 where there is none
+-- the newest record's position among n positions from low on, searched from the last back: 7 at a header that is not sound, 6 where there is none
 abbrev pub newest_of : Label → List (List ℕ) → ℕ → ℕ → ℕ → Outcome ℕ
 newest_of L log h low zero = Err (refusal 6 by_record 0 0)
 newest_of L log h low (suc n) =
@@ -117,8 +117,8 @@ ended L log M h n =
     Ok (record { log = log; M = M; h = h; n = n; e = end_of r n; t = tail_of L r })
 
 -- all of them in turn: 5, then 7 or 6, then 8
-abbrev pub seek_log : Label → List (List ℕ) → Outcome Found
-seek_log L log =
+abbrev pub search_log : Label → List (List ℕ) → Outcome Found
+search_log L log =
     let M = greatest L log in
     let h = head L log M in
     coherent L log >>= λ _. newest L log M h >>= λ n. ended L log M h n

@@ -2,12 +2,12 @@
 ghost use Rattle.std.specs.Prelude.{◌≡◌, refl};
 ghost use Rattle.std.proofs.Common.{◌∙◌};
 ghost use Rattle.device.specs.Steps.{write_step};
-ghost use Rattle.part.specs.Slices.{slice_state, Outside};
-ghost use Rattle.part.specs.Sized.{slice_sized, slice_small, outside_joins};
+ghost use Rattle.slicing.specs.Slices.{slice_state, Outside};
+ghost use Rattle.slicing.specs.Sized.{slice_sized, slice_small, outside_joins};
 
 use device::fault::DeviceFault;
 use device::interface::Device;
-use part::calls::{read_in_slice, slice_size, write_in_slice};
+use slicing::calls::{read_in_slice, slice_size, write_in_slice};
 
 // `count` sectors of `inner` from `start` on, cut off at its end.
 #[derive(Drop)]

@@ -1,12 +1,13 @@
 // A slice of a device, cut off at the device's end.
 ghost use Rattle.std.specs.Prelude.{◌≡◌, refl};
 ghost use Rattle.std.proofs.Common.{◌∙◌};
-ghost use Rattle.part.specs.Slices.{slice_state, Outside};
-ghost use Rattle.part.specs.Sized.{slice_sized, slice_small, outside_joins};
+ghost use Rattle.slicing.specs.Slices.{slice_state, Outside};
+ghost use Rattle.slicing.specs.Sized.{slice_sized, slice_small, outside_joins};
 
 use device::fault::DeviceFault;
 use device::interface::Device;
-use part::calls::{read_in_slice, slice_size, write_in_slice};
+pub use slicing::calls::write_in_slice;
+use slicing::calls::{read_in_slice, slice_size};
 
 // The `count` sectors of a device from `start` on, in their own numbering.
 #[derive(Drop)]

@@ -7,7 +7,7 @@ use Rattle.label.specs.Position.{volume_sector}
 use Rattle.record.specs.declared.header.RecordHeader.{RecordHeader}
 use Rattle.record.specs.Record.{header_of, end_of}
 use Rattle.model.specs.Refusals.{Refusal, refusal, by_record, Outcome, ◌>>=◌, need, from_device}
-use Rattle.model.specs.View.{greatest, head, coherent_from, newest, log_header, tail_of, tail_stands, ended, seek_log}
+use Rattle.model.specs.View.{greatest, head, coherent_from, newest, log_header, tail_of, tail_stands, ended, search_log}
 use Rattle.volume_log.specs.declared.cause.LogFault.{LogFault}
 use Rattle.volume_log.specs.declared.found.Found.{Found}
 use Rattle.volume_log.specs.Faults.{meaning, outcome}
@@ -21,7 +21,7 @@ steps L log m h = (coherent_from L log m 0 L.count >>= λ _. newest L log m h >>
 
 on_log : (d : DevState) (L : Label) (m h : ℕ) → Readable d L → m ≡ greatest L (log_of d L) → h ≡ head L (log_of d L) m → found_on d L ≡ steps L (log_of d L) m h
 on_log d L m h r e k =
-    ap (λ x. from_device x >>= λ log. seek_log L log >>= λ f. Ok (numbers f)) r
+    ap (λ x. from_device x >>= λ log. search_log L log >>= λ f. Ok (numbers f)) r
     ∙ ap (λ y. steps L (log_of d L) y (head L (log_of d L) y)) (sym e) ∙ ap (steps L (log_of d L) m) (sym k)
 
 pub not_coherent : (d : DevState) (L : Label) (m : ℕ) (f : Refusal) → Readable d L → m ≡ greatest L (log_of d L) → coherent_from L (log_of d L) m 0 L.count ≡ Err f → found_on d L ≡ Err f

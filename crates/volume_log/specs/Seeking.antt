@@ -6,7 +6,7 @@ use Rattle.label.specs.Position.{volume_sector}
 use Rattle.record.specs.declared.header.RecordHeader.{RecordHeader}
 use Rattle.record.specs.Record.{is_header, header_of, sound, end_of}
 use Rattle.model.specs.Refusals.{refusal, by_record, Outcome, ◌>>=◌, need}
-use Rattle.model.specs.View.{read_log, seek_log, tail_of, tail_stands}
+use Rattle.model.specs.View.{read_log, search_log, tail_of, tail_stands}
 use Rattle.model.specs.View.{Found as Seen}
 use Rattle.volume_log.specs.declared.found.Found.{Found}
 use Rattle.volume_log.specs.declared.found.Look.{Look}
@@ -18,7 +18,7 @@ numbers f = record { greatest = f.M; head = f.h; newest = f.n; end = f.e; tail =
 
 -- the log is read, then looked through
 abbrev pub found_on : DevState → Label → Outcome Found
-found_on d L = read_log d L >>= λ log. seek_log L log >>= λ f. Ok (numbers f)
+found_on d L = read_log d L >>= λ log. search_log L log >>= λ f. Ok (numbers f)
 
 -- what the sector b, at position x below the head h, is on the way back to the newest record
 abbrev pub look_at : Label → ℕ → ℕ → List ℕ → Look

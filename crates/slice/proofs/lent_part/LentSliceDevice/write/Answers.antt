@@ -1,7 +1,7 @@
 use mathlib.Core.Path.{ap, sym, subst, refl, ◌∙◌}
 use Rattle.device.specs.State.{DevState}
-use Rattle.part.specs.Slices.{slice_state, Outside}
-use Rattle.part.proofs.Shift.{slice_written, write_outside}
+use Rattle.slicing.specs.Slices.{slice_state, Outside}
+use Rattle.slicing.proofs.Shift.{slice_written, write_outside}
 use Rattle.slice.proofs.lent_part.LentSliceDevice.write.Goals as goal
 
 pub returns : goal.returns

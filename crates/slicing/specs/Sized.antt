@@ -2,7 +2,7 @@
 use Rattle.std.specs.Prelude.{◌≡◌, ℕ, ◌^◌, ◌≤◌, length}
 use Rattle.std.proofs.Common.{◌∙◌, arith, length-take, length-drop}
 use Rattle.device.specs.State.{DevState}
-use Rattle.part.specs.Slices.{slice_state, Outside}
+use Rattle.slicing.specs.Slices.{slice_state, Outside}
 
 pub slice_sized : (s : DevState) (a n : ℕ) → length s.contents ≡ s.size → length (slice_state s a n).contents ≡ (slice_state s a n).size
 slice_sized s a n h = simp (length-take, length-drop) (omega arith)

@@ -1,6 +1,6 @@
 use Rattle.std.proofs.Common.{◌-◌, ◌<◌, min, sym, ap, ◌∙◌, arith}
-use Rattle.part.proofs.Shift.{slice_read_answer, slice_read_bytes, relabel}
-use Rattle.part.proofs.calls.read_in_slice.Goals as goal
+use Rattle.slicing.proofs.Shift.{slice_read_answer, slice_read_bytes, relabel}
+use Rattle.slicing.proofs.calls.read_in_slice.Goals as goal
 
 pub returns-in-Ok : goal.returns-in-Ok
 returns-in-Ok g c =

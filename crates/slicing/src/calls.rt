@@ -1,6 +1,6 @@
 // Calls on a slice of a device: the sectors from `start` on, `count` of them, cut off at the device's end.
 ghost use Rattle.std.specs.Prelude.{◌≡◌};
-ghost use Rattle.part.specs.Slices.{slice_state, slice_write};
+ghost use Rattle.slicing.specs.Slices.{slice_state, slice_write};
 ghost use Rattle.device.specs.Steps.{read_answer, read_bytes, write_answer};
 
 use device::fault::{Cause, DeviceFault};

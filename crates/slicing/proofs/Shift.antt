@@ -5,7 +5,7 @@ use Rattle.std.proofs.lemmas.List.{get_or-take, get_or-drop, take-set-le, drop-s
 use Rattle.std.proofs.lemmas.Bool.{lt-ltb, le-ltb, cases_lt}
 use Rattle.device.specs.State.{DevState, Sector, holds, unreadable}
 use Rattle.device.specs.Steps.{refusal, fault, readable, read, done, given_or, read_answer, read_bytes, write_answer, write_step, written}
-use Rattle.part.specs.Slices.{slice_state, slice_write, Outside}
+use Rattle.slicing.specs.Slices.{slice_state, slice_write, Outside}
 use Rattle.device.specs.declared.fault.Cause.TheVariants.{Spent}
 use Rattle.device.specs.declared.fault.DeviceFault.{DeviceFault}
 
