@@ -1,6 +1,6 @@
 -- Banks of kinds whose patches are whole. Assumes nothing.
-use Rattle.std.specs.Prelude.{◌≡◌, ℕ, Bool, cond, is_some, Some, None, Option}
-use Rattle.std.proofs.Common.{sym, subst, ◌∙◌, arith}
+use Rattle.std.specs.Prelude.{◌≡◌, ℕ, Bool, is_some, Some, None, Option}
+use Rattle.std.proofs.Common.{subst, arith}
 use Rattle.std.proofs.lemmas.Bool.{cond_both}
 use Rattle.item.specs.Meaning.{Kind, Bank, WholePatches, WholeBank}
 use Rattle.bank.specs.Banks.{one_kind, first_of}

@@ -1,9 +1,9 @@
 -- What a chunk of a patch's range is given: the bytes that a walk over the map stands at. Assumes nothing.
-use Rattle.std.proofs.Common.{◌≡◌, ℕ, zero, suc, ◌+◌, ◌-◌, ◌*◌, ◌<◌, ◌≤◌, min, Bool, true, false, cond, ◌&&◌, eqb, List, [], ◌∷◌, ◌++◌, map, length, get_or, take, drop, replicate, Some, None, Option, sym, refl, ap, ◌∙◌, subst, inl, inr, arith}
+use Rattle.std.proofs.Common.{◌≡◌, ℕ, zero, suc, ◌+◌, ◌-◌, ◌*◌, ◌<◌, ◌≤◌, Bool, true, false, eqb, List, [], ◌∷◌, map, length, get_or, take, drop, replicate, Some, None, Option, sym, refl, ap, ◌∙◌, subst, inl, inr, arith}
 use Rattle.std.proofs.lemmas.List.{length-append, length-map, length-take, length-drop, drop-drop, drop_at, get_or-drop, get_or-take, get_or-map, get_or_append_left, get_or-replicate}
 use Rattle.std.proofs.lemmas.Bool.{cases_Bool, and_parts, eqb-true, eq-eqb, ne_eqb, both_ways}
 use Rattle.codec.specs.Fields.{same, joined}
-use Rattle.item.specs.Buffer.{map_bit, map_bits, run_of, runs, regions_fit, cover}
+use Rattle.item.specs.Buffer.{map_bit, map_bits, runs, regions_fit, cover}
 use Rattle.buffer.specs.Walk.{moved, cursor}
 use Rattle.buffer.specs.declared.cursor.Cursor.{Cursor}
 

@@ -1,9 +1,9 @@
 -- Bits of a map, its runs, and regions matched to them one after the other. Assumes nothing.
-use Rattle.std.proofs.Common.{◌≡◌, ℕ, zero, suc, ◌+◌, ◌-◌, ◌*◌, ◌<◌, ◌≤◌, Bool, true, false, cond, not, ◌&&◌, eqb, List, [], ◌∷◌, ◌++◌, map, length, get_or, drop, sym, refl, ap, ◌∙◌, inl, inr, arith}
+use Rattle.std.proofs.Common.{◌≡◌, ℕ, zero, suc, ◌+◌, ◌-◌, ◌*◌, ◌<◌, ◌≤◌, Bool, true, false, ◌&&◌, eqb, List, [], ◌∷◌, map, length, get_or, drop, sym, refl, ap, ◌∙◌, inl, inr, arith}
 use Rattle.std.proofs.lemmas.List.{get_or-drop, length-drop, length-map, get_or-map, drop_all, drop_more}
 use Rattle.std.proofs.lemmas.Bool.{cases_lt, cases_eq, cases_Bool, eq-eqb, ne_eqb, both_ways}
 use Rattle.codec.specs.Fields.{same}
-use Rattle.item.specs.Buffer.{map_bit, map_bits, none_set, run_of, runs, regions_fit}
+use Rattle.item.specs.Buffer.{map_bit, map_bits, none_set, runs, regions_fit}
 use Rattle.item.specs.Whole.{length_bits}
 use Rattle.item.specs.Regions.{region, regions}
 use Rattle.item.specs.declared.place.Place.{Place}

@@ -1,8 +1,8 @@
 -- Worked cases of buffers. Assumes nothing.
-use Rattle.std.specs.Prelude.{◌≡◌, ℕ, true, List, [], ◌∷◌, map, length, replicate, pos, Some, None, Option, slice_index_or}
+use Rattle.std.specs.Prelude.{◌≡◌, ℕ, List, [], ◌∷◌, map, length, replicate, pos, Some, None, Option, slice_index_or}
 use Rattle.codec.specs.Fields.{same, joined}
 use Rattle.keys.specs.declared.patch.PatchKey.{PatchKey}
-use Rattle.item.specs.Meaning.{Meaning, malformed, patch, cancel}
+use Rattle.item.specs.Meaning.{malformed, patch, cancel}
 use Rattle.item.specs.Buffer.{chunks, regions_fit, cover, buffer_meaning}
 
 -- the first region of a buffer of sector 8, length 1, with the given flags and the given least byte of its map word

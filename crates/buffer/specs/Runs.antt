@@ -1,5 +1,5 @@
 -- Where runs of set bits of a buffer's map begin and end. Assumes nothing.
-use Rattle.std.specs.Prelude.{◌≡◌, ℕ, ◌<◌, ◌≤◌, Bool, true, false, List}
+use Rattle.std.specs.Prelude.{◌≡◌, ℕ, ◌<◌, ◌≤◌, true, false, List}
 use Rattle.item.specs.Buffer.{map_bit}
 
 -- r is the first set bit of the map h from b on, or n if there is none below it

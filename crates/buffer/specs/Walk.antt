@@ -1,5 +1,5 @@
 -- A walk over the chunks of a range, and the bytes that the set ones take. Assumes nothing.
-use Rattle.std.specs.Prelude.{ℕ, zero, suc, ◌+◌, Bool, true, false, cond, List, ◌==◌}
+use Rattle.std.specs.Prelude.{ℕ, zero, suc, ◌+◌, Bool, cond, List, ◌==◌}
 use Rattle.item.specs.Buffer.{map_bit}
 use Rattle.buffer.specs.declared.cursor.Cursor.{Cursor}
 

@@ -1,5 +1,5 @@
 -- A record that was read, by the sectors of the whole log. Assumes nothing.
-use Rattle.std.proofs.Common.{◌≡◌, ℕ, zero, suc, ◌+◌, ◌<◌, ◌≤◌, Bool, true, false, cond, leb, List, [], ◌∷◌, length, get_or, Ok, Err, Result, sym, refl, ap, ◌∙◌, mod-lt, arith}
+use Rattle.std.proofs.Common.{◌≡◌, ℕ, zero, suc, ◌+◌, ◌≤◌, Bool, true, false, cond, leb, List, length, Ok, Err, sym, refl, ap, ◌∙◌, mod-lt, arith}
 use Rattle.std.proofs.lemmas.Bool.{le-leb}
 use Rattle.codec.specs.Fields.{joined}
 use Rattle.device.specs.State.{DevState}
@@ -9,11 +9,11 @@ use Rattle.label.specs.declared.label.Label.{Label}
 use Rattle.label.specs.Position.{log_sector, volume_sector}
 use Rattle.record.specs.Record.{is_header, header_of, sound, end_of, restored}
 use Rattle.model.specs.Refusals.{Refusal, refusal, by_record, by_session, Outcome, ◌>>=◌, need, from_device}
-use Rattle.model.specs.View.{at, read_log, log_header}
-use Rattle.model.specs.Reading.{sectors_from, data_sectors, stored_data, record_stands}
-use Rattle.model.proofs.Outcomes.{need_ok, device_ok}
-use Rattle.chain.specs.Rows.{row, sectors_on, over}
-use Rattle.chain.specs.Records.{header_due, header_on, sum_right, sum_answer, header_answer, restored_data, Left, left, data_on, record_by, read_record}
+use Rattle.model.specs.View.{at, read_log}
+use Rattle.model.specs.Reading.{sectors_from, data_sectors, record_stands}
+use Rattle.model.proofs.Outcomes.{device_ok}
+use Rattle.chain.specs.Rows.{sectors_on, over}
+use Rattle.chain.specs.Records.{header_due, header_on, sum_right, sum_answer, data_on, record_by, read_record}
 use Rattle.chain.specs.Standing.{Stands}
 
 module _ (d : DevState) (L : Label) (log : List (List ℕ)) (some : 1 ≤ L.count) (r : reads d L.start L.count ≡ Ok log) where

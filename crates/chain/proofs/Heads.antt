@@ -1,5 +1,5 @@
 -- A header that was found due. Assumes nothing.
-use Rattle.std.proofs.Common.{◌≡◌, ℕ, ◌+◌, ◌/◌, ◌%◌, ◌≤◌, true, not, eqb, leb, List, Ok, sym, refl, ap, ◌∙◌}
+use Rattle.std.proofs.Common.{◌≡◌, ℕ, ◌+◌, ◌/◌, ◌%◌, ◌≤◌, true, not, eqb, leb, List, Ok, sym, ap, ◌∙◌}
 use Rattle.std.proofs.lemmas.Bool.{and_parts, eqb-true, leb-true}
 use Rattle.device.specs.State.{DevState}
 use Rattle.device.specs.Steps.{read}
@@ -8,8 +8,8 @@ use Rattle.std.specs.Str.{bytes_eq}
 use Rattle.label.specs.Position.{volume_sector, cycle, log_sector}
 use Rattle.record.specs.declared.header.RecordHeader.{RecordHeader}
 use Rattle.record.specs.Record.{is_header, header_of, sound, end_of}
-use Rattle.model.specs.Refusals.{refusal, by_record, Outcome, ◌>>=◌, need, from_device}
-use Rattle.model.proofs.Outcomes.{need_ok, bind_ok, device_ok}
+use Rattle.model.specs.Refusals.{refusal, by_record, ◌>>=◌, from_device}
+use Rattle.model.proofs.Outcomes.{need_ok, bind_ok}
 use Rattle.chain.specs.Records.{header_due, header_on}
 
 -- what is known of it

@@ -1,15 +1,15 @@
 -- Sectors laid one after the other at the front of a buffer. Assumes nothing.
-use Rattle.std.proofs.Common.{◌≡◌, ℕ, zero, suc, ◌+◌, ◌-◌, ◌*◌, ◌<◌, ◌≤◌, List, [], ◌∷◌, ◌++◌, length, take, drop, Ok, Err, sym, refl, ap, ◌∙◌, arith}
+use Rattle.std.proofs.Common.{◌≡◌, ℕ, ◌+◌, ◌*◌, ◌≤◌, List, ◌++◌, length, drop, Ok, sym, ap, ◌∙◌, arith}
 use Rattle.std.proofs.lemmas.List.{length-append, length-drop, drop-drop, append_assoc}
 use Rattle.codec.specs.Fields.{put, joined}
 use Rattle.record.proofs.Words.{put_behind, put_front}
-use Rattle.device.specs.State.{DevState, sector_at, bytes_of}
+use Rattle.device.specs.State.{DevState}
 use Rattle.device.specs.Steps.{read}
 use Rattle.label.specs.declared.label.Label.{Label}
 use Rattle.label.specs.Position.{volume_sector}
 use Rattle.volume_log.proofs.Rows.{read_holds}
 use Rattle.chain.specs.Rows.{row, over}
-use Rattle.chain.proofs.Positions.{bytes_at, joined_more}
+use Rattle.chain.proofs.Positions.{joined_more}
 
 -- a sector put behind k of them
 pub lay_more : (front s b : List ℕ) (k : ℕ) → length front ≡ 512 * k → length s ≡ 512 → 512 * (k + 1) ≤ length b → put (over k front b) (512 * k) s ≡ over (k + 1) (front ++ s) b

@@ -1,5 +1,5 @@
 -- A record read, from what its steps left. Assumes nothing.
-use Rattle.std.proofs.Common.{◌≡◌, ℕ, ◌+◌, ◌-◌, ◌*◌, ◌/◌, ◌%◌, ◌≤◌, List, ◌++◌, length, take, drop, Ok, Err, sym, refl, ap, ◌∙◌, arith}
+use Rattle.std.proofs.Common.{◌≡◌, ℕ, ◌+◌, ◌-◌, ◌*◌, ◌%◌, ◌≤◌, List, ◌++◌, length, take, drop, Ok, Err, sym, ap, ◌∙◌, arith}
 use Rattle.std.proofs.lemmas.List.{length-take, take_at, drop_at}
 use Rattle.codec.specs.Fields.{joined}
 use Rattle.device.specs.State.{DevState}
@@ -7,10 +7,10 @@ use Rattle.device.specs.declared.fault.DeviceFault.{DeviceFault}
 use Rattle.label.specs.declared.label.Label.{Label}
 use Rattle.record.specs.declared.header.RecordHeader.{RecordHeader}
 use Rattle.record.specs.Record.{header_of}
-use Rattle.model.specs.Refusals.{Refusal, device_refusal, Outcome, ◌>>=◌}
+use Rattle.model.specs.Refusals.{Refusal, device_refusal, Outcome}
 use Rattle.model.specs.Reading.{data_sectors}
 use Rattle.chain.specs.Rows.{row, told, sectors_on, read_before, over}
-use Rattle.chain.specs.Records.{header_on, sum_answer, header_answer, restored_data, left, data_on, record_by, read_record}
+use Rattle.chain.specs.Records.{header_on, header_answer, restored_data, left, data_on, record_by, read_record}
 use Rattle.chain.proofs.Positions.{on_told}
 
 -- the front of a buffer, as long as a header tells

@@ -1,5 +1,5 @@
 -- Numbers with a sign and their bits. Assumes nothing.
-use Rattle.std.proofs.Common.{◌≡◌, ℕ, ◌-◌, ◌<◌, Bool, true, false, cond, ltb, ℤ, pos, negsuc, refl, arith}
+use Rattle.std.proofs.Common.{◌≡◌, ℕ, ◌-◌, ◌<◌, Bool, true, false, cond, ltb, pos, negsuc, refl, arith}
 use Rattle.codec.specs.Fields.{signed32, signed64, unsigned32, unsigned64}
 
 pub signed32_back : (x : ℕ) → x < 4294967296 → unsigned32 (signed32 x) ≡ x

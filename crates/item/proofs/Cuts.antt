@@ -1,6 +1,6 @@
 -- Regions as parts of the bytes. Assumes nothing.
-use Rattle.std.proofs.Common.{◌≡◌, ℕ, ◌-◌, ◌<◌, ◌≤◌, min, List, [], length, get_or, take, drop, sym, ap, ◌∙◌, inl, inr, arith}
-use Rattle.std.proofs.lemmas.List.{take_all, drop_all, length-drop, length-map, get_or-map, get_or_past}
+use Rattle.std.proofs.Common.{◌≡◌, ℕ, ◌<◌, ◌≤◌, min, List, [], length, get_or, take, drop, sym, ◌∙◌, inl, inr, arith}
+use Rattle.std.proofs.lemmas.List.{take_all, drop_all, length-map, get_or-map, get_or_past}
 use Rattle.std.proofs.lemmas.Bool.{cases_lt}
 use Rattle.item.specs.Regions.{region, regions}
 use Rattle.item.specs.declared.place.Place.{Place}

@@ -1,18 +1,17 @@
 -- Patches of the built kinds say of each byte of their range what they give. Assumes nothing.
-use Rattle.std.specs.Prelude.{◌≡◌, ℕ, zero, suc, ◌+◌, ◌-◌, ◌*◌, ◌≤◌, Bool, true, false, cond, ◌&&◌, ◌||◌, List, [], ◌∷◌, ◌++◌, map, length, get_or, take, drop, replicate, Some, None, Option, ◌==◌, nat_le, slice_index_or, refl}
+use Rattle.std.specs.Prelude.{◌≡◌, ℕ, zero, suc, ◌+◌, ◌-◌, ◌*◌, ◌≤◌, Bool, true, false, cond, ◌&&◌, ◌||◌, List, [], ◌∷◌, ◌++◌, map, length, get_or, take, drop, Some, None, Option, ◌==◌, nat_le, slice_index_or, refl}
 use Rattle.std.proofs.Common.{sym, ap, subst, ◌∙◌, inl, inr, arith}
 use Rattle.std.proofs.lemmas.List.{length-append, length-map, length-take, length-drop}
 use Rattle.std.proofs.lemmas.Bool.{cases_Bool, cond_both, and_parts, leb-true}
 use Rattle.std.proofs.lemmas.Slice.Eq.{bytes_eq-Decides}
 use Rattle.codec.specs.Fields.{le16, le32, le64, joined}
 use Rattle.keys.specs.declared.patch.PatchKey.{PatchKey}
-use Rattle.item.specs.Meaning.{Meaning, malformed, patch, cancel, opens, closes, Kind, WholePatches, WholeBank}
-use Rattle.item.specs.Buffer.{run_of, runs, regions_fit, cover, buffer_length, buffer_key, map_words, chunks, map_bits, none_set, buffer_fits, flagged, buffer_meaning, buffer}
+use Rattle.item.specs.Meaning.{Meaning, malformed, patch, opens, closes, Kind, WholePatches, WholeBank}
+use Rattle.item.specs.Buffer.{run_of, runs, regions_fit, cover, buffer_length, buffer_key, map_words, chunks, map_bits, none_set, buffer_fits, buffer_meaning, buffer}
 use Rattle.item.specs.Intent.{intent_fits, intent_meaning, free_intent}
 use Rattle.item.specs.Built.{built}
 use Rattle.item.specs.Classes.{class_of}
-use Rattle.item.specs.declared.class.Class.{Class}
-use Rattle.item.specs.declared.class.Class.TheVariants.{Malformed, Patch, Cancel, Open, Close}
+use Rattle.item.specs.declared.class.Class.TheVariants.{Malformed, Patch, Cancel}
 
 -- How long a cover is.
 

@@ -1,5 +1,5 @@
 -- What the call label leaves, from what its actions left. Assumes nothing.
-use Rattle.std.proofs.Common.{◌≡◌, ◌+◌, true, cond, length, Ok, Err, Result, sym, refl, ap, ◌∙◌}
+use Rattle.std.proofs.Common.{◌≡◌, ◌+◌, true, length, Ok, Err, sym, refl, ap, ◌∙◌}
 use Rattle.std.proofs.lemmas.Bool.{and_parts, leb-true}
 use Rattle.device.specs.State.{DevState}
 use Rattle.device.specs.Steps.{Answer}

@@ -1,9 +1,9 @@
 -- What an accepted label leaves. Assumes nothing.
-use Rattle.std.proofs.Common.{◌≡◌, ℕ, suc, ◌+◌, ◌-◌, ◌*◌, ◌<◌, ◌≤◌, Bool, true, false, ◌⊎◌, List, [], ◌∷◌, ◌++◌, length, get_or, set, replicate, Ok, sym, refl, ap, ◌∙◌, subst, inl, inr, arith, length-append, length-set, get_or-set_other, get_or-set_same}
+use Rattle.std.proofs.Common.{◌≡◌, ℕ, ◌+◌, ◌*◌, ◌<◌, ◌≤◌, true, false, ◌⊎◌, List, [], ◌∷◌, ◌++◌, length, get_or, set, replicate, Ok, sym, refl, ap, ◌∙◌, subst, inl, inr, arith, length-append, length-set, get_or-set_other, get_or-set_same}
 use Rattle.std.proofs.lemmas.List.{length-replicate, get_or-replicate}
 use Rattle.codec.specs.Fields.{zeros}
 use Rattle.device.specs.State.{DevState, Sector, holds, unreadable}
-use Rattle.device.specs.Actions.{Action, write, force, effect, writes, zero_writes, run}
+use Rattle.device.specs.Actions.{force, effect, writes, zero_writes, run}
 use Rattle.device.specs.Laws.{settled_after, after_all}
 use Rattle.label.specs.declared.label.Label.{Label}
 use Rattle.label.specs.Label.{label_bytes}

@@ -1,5 +1,5 @@
 -- What label leaves, in words. Assumes nothing.
-use Rattle.std.specs.Prelude.{◌≡◌, ℕ, ◌+◌, ◌<◌, ◌≤◌, true, false, ◌⊎◌, [], slice_index_or}
+use Rattle.std.specs.Prelude.{◌≡◌, ℕ, ◌+◌, ◌<◌, ◌≤◌, true, ◌⊎◌, [], slice_index_or}
 use Rattle.codec.specs.Fields.{zeros}
 use Rattle.device.specs.State.{DevState, holds, sector_at}
 use Rattle.label.specs.declared.label.Label.{Label}

@@ -6,8 +6,8 @@ use Rattle.std.proofs.lemmas.Bool.{lt-ltb}
 use Rattle.codec.specs.Fields.{be32, be32_bytes, part, zeros}
 use Rattle.codec.proofs.Numbers.{be_within}
 use Rattle.label.specs.Position.{position, split_of}
-use Rattle.label.specs.Label.{label_of, label_bytes}
-use Rattle.label.specs.Laws.{LabelFits, LabelBack, LabelLaws}
+use Rattle.label.specs.Label.{label_bytes}
+use Rattle.label.specs.Laws.{LabelBack, LabelLaws}
 use Rattle.label.specs.declared.label.Label.{Label}
 
 -- Positions.

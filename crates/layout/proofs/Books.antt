@@ -1,15 +1,15 @@
 -- The book of a reading lists just the intents that its items leave open. Assumes nothing.
-use Rattle.std.proofs.Common.{◌≡◌, ℕ, zero, suc, ◌+◌, Bool, true, false, cond, not, ◌||◌, eqb, ltb, ◌⊎◌, List, [], ◌∷◌, ◌++◌, map, length, drop, Some, None, Ok, Err, Option, sym, refl, ap, ◌∙◌, subst, inl, inr, arith}
+use Rattle.std.proofs.Common.{◌≡◌, ℕ, suc, Bool, true, false, cond, not, ◌||◌, eqb, ltb, List, [], ◌∷◌, ◌++◌, map, length, drop, Some, None, Ok, Err, Option, sym, refl, ap, ◌∙◌, subst, inl, inr, arith}
 use Rattle.std.proofs.lemmas.List.{append-nil, append_assoc}
 use Rattle.std.proofs.lemmas.Bool.{eqb-true}
 use Rattle.device.specs.State.{DevState}
 use Rattle.keys.specs.Keys.{further, place_of}
 use Rattle.label.specs.declared.label.Label.{Label}
 use Rattle.item.specs.Meaning.{Meaning, malformed, patch, cancel, opens, closes, Bank}
-use Rattle.model.specs.Refusals.{Refusal, refusal, by_transaction, by_item, Outcome, ◌>>=◌, need}
+use Rattle.model.specs.Refusals.{refusal, by_transaction, by_item, Outcome, ◌>>=◌, need}
 use Rattle.model.specs.Items.{Region, Item, Book, items_after, replay_order, check, check_all, reading, without, Verdict, unknown, too_large, means, verdict, meant, in_bounds, covered, all_readable, present, key_place, intent_place, with_key, with_intent, closed_at, closed_for}
 use Rattle.model.specs.Ops.{Op}
-use Rattle.model.specs.Reading.{Transaction, Reading, saw, counted, heads, joins, committed, read_ops, all_items}
+use Rattle.model.specs.Reading.{Transaction, Reading, counted, heads, joins, committed, read_ops, all_items}
 use Rattle.model.specs.Laws.{meanings}
 use Rattle.model.proofs.Outcomes.{need_ok, bind_ok}
 use Rattle.life.specs.Disk.{In}

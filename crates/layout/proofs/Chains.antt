@@ -6,10 +6,10 @@ use Rattle.std.proofs.lemmas.List.{nil_from_length}
 use Rattle.device.specs.State.{DevState, sector_at}
 use Rattle.label.specs.declared.label.Label.{Label}
 use Rattle.label.specs.Position.{volume_sector}
-use Rattle.record.specs.Record.{header_of, end_of, padded, sectors_for}
-use Rattle.item.specs.Meaning.{Meaning, malformed, patch, cancel, opens, closes, Bank}
+use Rattle.record.specs.Record.{header_of, end_of}
+use Rattle.item.specs.Meaning.{Bank}
 use Rattle.model.specs.Refusals.{Outcome, ◌>>=◌}
-use Rattle.model.specs.View.{at, log_header, Found}
+use Rattle.model.specs.View.{at, log_header}
 use Rattle.model.specs.Ops.{Op}
 use Rattle.model.specs.Reading.{Transaction, Reading, begun, counted, read_ops, read_record, read_records, read_chain, all_items}
 use Rattle.model.specs.Laws.{Stand}
@@ -26,7 +26,7 @@ use Rattle.layout.specs.Real.{Usable, sec}
 use Rattle.layout.specs.Plans.{HasLog}
 use Rattle.layout.specs.Chains.{Three, Full, ChainRead, ChainReads}
 use Rattle.layout.proofs.Ring.{ring}
-use Rattle.layout.proofs.Secs.{padded_whole, sectors_whole, head_of, rest_of, packed_is, back, rest_many, first_is}
+use Rattle.layout.proofs.Secs.{padded_whole, sectors_whole, head_of, rest_of, packed_is, back, rest_many}
 use Rattle.layout.proofs.Items.{asked_joins, Told}
 use Rattle.layout.proofs.More.{progress_long, progress_passed}
 use Rattle.layout.proofs.Ops.{bare, dressed, Clear, Comes, comes_same, ops_on}

@@ -20,7 +20,7 @@ use Rattle.model.proofs.Sums.{bytes_padded}
 use Rattle.model.proofs.Opsback.{ops_read}
 use Rattle.model.proofs.Checked.{same_bytes, checks_again}
 use Rattle.model.proofs.Commits.{commit_says}
-use Rattle.life.specs.Format.{Rec, size, Fits}
+use Rattle.life.specs.Format.{Rec, Fits}
 use Rattle.life.specs.Calls as life
 use Rattle.layout.specs.Read.{clean, Progress, unread, taken, read_rec, progress, reads, asked, asked_by, items}
 use Rattle.layout.specs.Real.{Usable}

@@ -1,5 +1,5 @@
 -- What a replay decides on a volume that has a plan. Assumes nothing.
-use Rattle.std.proofs.Common.{◌≡◌, ℕ, zero, suc, ◌+◌, ◌-◌, ◌*◌, ◌%◌, ◌<◌, ◌≤◌, Bool, true, false, cond, ltb, leb, ◌⊎◌, List, [], ◌∷◌, ◌++◌, map, length, get_or, Some, Ok, Err, Option, sym, refl, ap, ◌∙◌, subst, inl, inr, mod-eq_of_lt, arith}
+use Rattle.std.proofs.Common.{◌≡◌, ℕ, zero, suc, ◌+◌, ◌-◌, ◌<◌, ◌≤◌, Bool, true, false, ltb, leb, ◌⊎◌, List, [], ◌∷◌, ◌++◌, length, get_or, Some, Ok, Err, Option, sym, refl, ap, ◌∙◌, subst, inl, inr, mod-eq_of_lt, arith}
 use Rattle.std.proofs.lemmas.Bool.{cond-true, lt-ltb}
 use Rattle.std.proofs.lemmas.List.{length-map}
 use Rattle.device.specs.State.{DevState, sector_at, holds}
@@ -13,18 +13,17 @@ use Rattle.label.proofs.Back.{label_laws}
 use Rattle.item.specs.Meaning.{Meaning, Bank}
 use Rattle.model.specs.Refusals.{Refusal, refusal, by_session, Outcome, ◌>>=◌, need, from_device}
 use Rattle.model.specs.View.{read_label, read_log, search_log, Found}
-use Rattle.model.specs.Items.{Patch, applied, skipped}
+use Rattle.model.specs.Items.{applied}
 use Rattle.model.specs.Reading.{Transaction, Reading, read_chain, all_items}
-use Rattle.model.specs.Lay.{lays, blanks}
+use Rattle.model.specs.Lay.{blanks}
 use Rattle.model.specs.Calls.{Session, Plan, Counts, Passed, searched, pass_one, counts, patches, replay_plan}
 use Rattle.life.specs.Disk.{Whole}
 use Rattle.life.specs.Items.{open_ids}
 use Rattle.life.specs.Items as life
-use Rattle.life.specs.Format.{Rec, chain_items}
+use Rattle.life.specs.Format.{chain_items}
 use Rattle.life.specs.Calls.{Readable}
 use Rattle.life.specs.Calls as calls
 use Rattle.life.specs.Life.{Finds}
-use Rattle.layout.specs.Read.{asked}
 use Rattle.layout.specs.Real.{Usable}
 use Rattle.layout.specs.Plans.{HasLog}
 use Rattle.layout.specs.Chains.{Three, Full, ChainRead}

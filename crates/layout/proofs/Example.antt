@@ -1,15 +1,14 @@
 -- The life of the example, by computation. Assumes nothing.
-use Rattle.std.proofs.Common.{◌≡◌, ℕ, zero, suc, Bool, true, ◌&&◌, ltb, List, [], ◌∷◌, ◌++◌, length, get_or, replicate, Some, None, Option, refl, arith}
+use Rattle.std.proofs.Common.{◌≡◌, ℕ, zero, suc, Bool, true, ◌&&◌, ltb, List, [], ◌∷◌, length, get_or, replicate, Some, None, refl, arith}
 use Rattle.std.proofs.lemmas.Bool.{and_parts, ltb-true}
 use Rattle.codec.specs.Fields.{Bytes, zeros}
-use Rattle.device.specs.State.{DevState, Sector, sector_at, holds, unreadable}
-use Rattle.device.specs.Actions.{force}
+use Rattle.device.specs.State.{holds, unreadable}
 use Rattle.item.specs.Built.{built}
-use Rattle.model.specs.Calls.{Session, label_plan, replay_plan, replay_call, commit_plan, commit_call, force_call}
+use Rattle.model.specs.Calls.{Session, label_plan, replay_plan, replay_call, commit_plan}
 use Rattle.model.specs.Cases.{label_here, new_volume, session_at, chunk_0, patch_regions}
 use Rattle.layout.specs.Real.{Usable}
-use Rattle.layout.specs.Volumes.{Volume, after_run, served}
-use Rattle.layout.specs.Lives.{Sectored, Cut, fresh, Life, labelled, commits, forces, clears, replays, cuts}
+use Rattle.layout.specs.Volumes.{Volume, served}
+use Rattle.layout.specs.Lives.{fresh, Life, labelled, commits, replays}
 use Rattle.layout.specs.Example.{base_here, ExampleLives}
 use Rattle.layout.proofs.Sizes.{holds_sized}
 

@@ -1,14 +1,14 @@
 -- What replay and clear write, in the words of lives. Assumes nothing.
-use Rattle.std.proofs.Common.{◌≡◌, ℕ, zero, suc, ◌+◌, ◌-◌, ◌*◌, ◌<◌, ◌≤◌, Bool, true, false, cond, ◌&&◌, ◌||◌, eqb, leb, List, [], ◌∷◌, ◌++◌, map, length, get_or, take, drop, ℤ, pos, negsuc, Some, None, Option, sym, refl, ap, ◌∙◌, arith}
+use Rattle.std.proofs.Common.{◌≡◌, ℕ, suc, ◌+◌, ◌-◌, ◌*◌, ◌<◌, ◌≤◌, Bool, true, false, cond, ◌&&◌, ◌||◌, eqb, leb, List, [], ◌∷◌, ◌++◌, map, length, get_or, drop, ℤ, pos, negsuc, Some, None, Option, sym, refl, ap, ◌∙◌, arith}
 use Rattle.std.specs.List.{AllByRecursion}
 use Rattle.std.proofs.lemmas.List.{get_or-take, get_or-drop}
 use Rattle.std.proofs.lemmas.Bool.{cond-true, le-leb}
 use Rattle.device.specs.State.{Sector, holds, unreadable, bytes_of}
-use Rattle.device.specs.Actions.{Action, write}
+use Rattle.device.specs.Actions.{write}
 use Rattle.keys.specs.Keys.{same_number, same_key}
 use Rattle.keys.specs.declared.patch.PatchKey.{PatchKey}
 use Rattle.item.specs.Meaning.{Meaning, malformed, patch, cancel, opens, closes}
-use Rattle.model.specs.Items.{Patch, cancelled, applied, skipped, cover_of, first_sector, covered}
+use Rattle.model.specs.Items.{Patch, cancelled, applied, skipped, cover_of, covered}
 use Rattle.model.specs.Lay.{give, overlay, patch_write}
 use Rattle.model.specs.Laws.{start_of, given}
 use Rattle.life.specs.Items as life

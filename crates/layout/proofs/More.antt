@@ -8,7 +8,7 @@ use Rattle.device.specs.State.{DevState}
 use Rattle.keys.specs.Keys.{place_of}
 use Rattle.label.specs.declared.label.Label.{Label}
 use Rattle.item.specs.Meaning.{Bank}
-use Rattle.model.specs.Refusals.{refusal, by_transaction, Outcome, ◌>>=◌, need}
+use Rattle.model.specs.Refusals.{refusal, by_transaction, Outcome, ◌>>=◌}
 use Rattle.model.specs.Items.{Region, Item, Book, items_after, replay_order, check_all, reading, without}
 use Rattle.model.specs.Ops.{Sort, start, commit, region, idle, Op, op_at, after_op}
 use Rattle.model.specs.Reading.{Open, Transaction, Reading, saw, counted, regions_of, heads, joins, committed, bad, pending_at, starts, brings, ends, by_sort, step, read_ops}

@@ -10,10 +10,10 @@ use Rattle.device.specs.declared.fault.Cause.TheVariants.{Unreadable, Beyond}
 use Rattle.keys.specs.Keys.{place_of}
 use Rattle.label.specs.declared.label.Label.{Label}
 use Rattle.item.specs.Meaning.{Meaning, malformed, patch, cancel, opens, closes, Bank}
-use Rattle.model.specs.Refusals.{Refusal, refusal, by_transaction, by_item, Outcome, ◌>>=◌, need, device_refusal, from_device}
+use Rattle.model.specs.Refusals.{refusal, by_transaction, by_item, Outcome, ◌>>=◌, need, device_refusal, from_device}
 use Rattle.model.specs.Items.{Region, Item, Book, items_after, replay_order, check, check_all, reading, without, Verdict, unknown, too_large, means, verdict, meant, in_bounds, covered, all_readable, present, key_place, intent_place, with_key, with_intent, closed_for}
 use Rattle.model.specs.Ops.{Sort, start, commit, region, idle, Op, sort_of, sorted, op_at, after_op}
-use Rattle.model.specs.Reading.{Open, Transaction, Reading, saw, counted, begins, goes_on, mine, later_parts, regions_of, heads, joins, committed, bad, pending_at, starts, brings, ends, by_sort, step, read_ops}
+use Rattle.model.specs.Reading.{Open, Transaction, Reading, saw, begins, goes_on, later_parts, regions_of, heads, joins, committed, bad, pending_at, starts, brings, ends, by_sort, step, read_ops}
 use Rattle.model.specs.Laws.{meanings}
 use Rattle.model.proofs.Outcomes.{need_ok, bind_ok, device_ok}
 use Rattle.model.proofs.Checked.{plain_verdict, order_same, meant_all}

@@ -1,5 +1,5 @@
 -- A replay by the call is a replay of a life over the real layout, and every life by the calls is such a life. Assumes nothing.
-use Rattle.std.proofs.Common.{◌≡◌, ℕ, ◌+◌, ◌/◌, Bool, true, false, cond, ◌⊎◌, List, [], ◌∷◌, ◌++◌, length, Some, None, Ok, Err, Option, sym, refl, ap, ◌∙◌, subst, inl, inr, arith}
+use Rattle.std.proofs.Common.{◌≡◌, ℕ, ◌+◌, ◌/◌, true, cond, ◌⊎◌, List, [], ◌∷◌, length, Some, Ok, Err, Option, sym, refl, ap, ◌∙◌, subst, inl, inr, arith}
 use Rattle.device.specs.State.{DevState, Sector, sector_at}
 use Rattle.device.specs.Actions.{Action, run}
 use Rattle.label.specs.declared.label.Label.{Label}
@@ -17,8 +17,8 @@ use Rattle.life.specs.Calls as calls
 use Rattle.life.specs.Life.{Entry, transactions}
 use Rattle.life.specs.Life as life
 use Rattle.layout.specs.Real.{Usable}
-use Rattle.layout.specs.Volumes.{Volume, accepted, after_run, served, disk_of}
-use Rattle.layout.specs.Lives.{Life, labelled, commits, forces, clears, replays, cuts, Account, went, all_items, Home, Chain, Replayed}
+use Rattle.layout.specs.Volumes.{Volume, accepted, served, disk_of}
+use Rattle.layout.specs.Lives.{Life, labelled, commits, forces, clears, replays, cuts, Account, went, all_items, Chain, Replayed}
 use Rattle.layout.proofs.Real.{real}
 use Rattle.layout.proofs.Deciding.{Decided, replay_decides}
 use Rattle.layout.proofs.Showing.{acted_answer, acted_device, acted_session, Match, Fair, Ran, acts_went, acts_fair, Shown, normal, Facts, facts}

@@ -1,10 +1,10 @@
 -- The ring of a log under a label. Assumes nothing.
-use Rattle.std.proofs.Common.{◌≡◌, ℕ, suc, ◌+◌, ◌-◌, ◌*◌, ◌/◌, ◌%◌, ◌<◌, ◌≤◌, Bool, true, ◌&&◌, eqb, leb, ◌⊎◌, sym, refl, ap, ◌∙◌, inl, inr, mul-le-mul_right, mod-lt, mod-eq_of_lt, suc-mul, div-add-mod', arith}
+use Rattle.std.proofs.Common.{◌≡◌, ℕ, suc, ◌+◌, ◌*◌, ◌/◌, ◌%◌, ◌<◌, ◌≤◌, true, eqb, leb, ◌⊎◌, ap, inl, inr, mul-le-mul_right, mod-lt, suc-mul, div-add-mod', arith}
 use native.Mathlib.Nat.{add-mod_right}
 use Rattle.std.proofs.lemmas.Bool.{cases_lt, and_parts, eqb-true, leb-true}
 use Rattle.label.specs.declared.label.Label.{Label}
 use Rattle.label.specs.Label.{limits}
-use Rattle.label.specs.Position.{log_sector, volume_sector}
+use Rattle.label.specs.Position.{volume_sector}
 use Rattle.model.specs.Laws.{Sane}
 use Rattle.life.specs.Log.{Ring}
 use Rattle.layout.specs.Real.{Usable, pos, len, tail, sound}

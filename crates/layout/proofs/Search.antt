@@ -1,9 +1,9 @@
 -- What a plan of a life says is what the search finds. Assumes nothing.
-use Rattle.std.proofs.Common.{◌≡◌, ℕ, zero, suc, ◌+◌, ◌-◌, ◌*◌, ◌/◌, ◌%◌, ◌<◌, ◌≤◌, Bool, true, false, cond, eqb, ◌⊎◌, List, [], ◌∷◌, length, get_or, Ok, sym, refl, ap, ◌∙◌, subst, inl, inr, mod-lt, arith}
+use Rattle.std.proofs.Common.{◌≡◌, ℕ, suc, ◌+◌, ◌-◌, ◌/◌, ◌<◌, ◌≤◌, Bool, true, false, cond, ◌⊎◌, List, [], ◌∷◌, get_or, Ok, sym, refl, ap, ◌∙◌, subst, inl, inr, mod-lt, arith}
 use lib.Arith.{digits_div, digits_mod}
-use Rattle.std.proofs.lemmas.Bool.{cases_order, cond-true, cond-false, eq-eqb, eqb-true, ne_eqb, cases_Bool}
+use Rattle.std.proofs.lemmas.Bool.{cases_order, cond-true, cond-false, eq-eqb, eqb-true, ne_eqb}
 use Rattle.label.specs.declared.label.Label.{Label}
-use Rattle.label.specs.Position.{cycle, log_sector, volume_sector}
+use Rattle.label.specs.Position.{log_sector, volume_sector}
 use Rattle.record.specs.Record.{is_header, held_cycle, held_position, header_of, end_of}
 use Rattle.record.specs.Record as records
 use Rattle.item.specs.Meaning.{Bank}
@@ -16,7 +16,7 @@ use Rattle.life.specs.Log.{Held, Greatest, Coherent, Head, Newest}
 use Rattle.life.specs.Log as log
 use Rattle.life.specs.Format.{Rec, size, Fits, Format}
 use Rattle.life.specs.Calls.{bytes_of, Stands, Chain, Plan}
-use Rattle.layout.specs.Real.{Usable, pos, len, sec}
+use Rattle.layout.specs.Real.{Usable, len}
 use Rattle.layout.specs.Plans.{HasLog, SeekPlans}
 use Rattle.layout.proofs.Ring.{ring, limited, sane}
 use Rattle.layout.proofs.Secs.{head_of, back, first_is}

@@ -1,5 +1,5 @@
 -- The sectors of records and blanks: what they hold, and that they tell the record. Assumes nothing.
-use Rattle.std.proofs.Common.{◌≡◌, ℕ, zero, suc, ◌+◌, ◌-◌, ◌*◌, ◌/◌, ◌%◌, ◌<◌, ◌≤◌, Bool, true, false, cond, List, [], ◌∷◌, ◌++◌, length, get_or, replicate, sym, refl, ap, ◌∙◌, mod-eq_of_lt, div-add-mod', arith}
+use Rattle.std.proofs.Common.{◌≡◌, ℕ, zero, suc, ◌+◌, ◌-◌, ◌*◌, ◌/◌, ◌<◌, ◌≤◌, true, List, [], ◌∷◌, ◌++◌, length, get_or, replicate, sym, ap, ◌∙◌, mod-eq_of_lt, div-add-mod', arith}
 use native.Mathlib.Nat.{mod-eq-sub-mod}
 use Rattle.std.proofs.lemmas.List.{append-nil, ext_get_or}
 use Rattle.std.proofs.lemmas.Bool.{cond-true, cond-false}
@@ -12,10 +12,8 @@ use Rattle.model.specs.Lay.{blank}
 use Rattle.model.specs.Reading.{data_sectors}
 use Rattle.model.proofs.Back.{written_reads}
 use Rattle.model.proofs.Stamped.{stamped_turns}
-use Rattle.life.specs.Disk.{Sector, holds}
-use Rattle.life.specs.Log.{limit}
-use Rattle.life.specs.Format.{Rec, size, Small, Fits}
-use Rattle.life.specs.Calls.{bytes_of}
+use Rattle.life.specs.Disk.{holds}
+use Rattle.life.specs.Format.{Rec, size, Fits}
 use Rattle.layout.specs.Real.{Usable, pos, len, tail, sound, sec}
 use Rattle.layout.proofs.Ring.{ring, sane}
 

@@ -1,27 +1,26 @@
 -- A life by the calls, shown as a life over the real layout. Assumes nothing.
-use Rattle.std.proofs.Common.{◌≡◌, ℕ, ◌+◌, ◌-◌, ◌<◌, ◌≤◌, Bool, true, false, cond, ◌⊎◌, List, [], ◌∷◌, ◌++◌, length, get_or, Some, None, Ok, Err, Option, sym, refl, ap, ◌∙◌, subst, inl, inr, arith}
+use Rattle.std.proofs.Common.{◌≡◌, ℕ, ◌<◌, Bool, true, false, cond, List, length, Some, None, Ok, Err, Option, sym, refl, ap, ◌∙◌, subst, arith}
 use Rattle.std.specs.List.{AllByRecursion}
-use Rattle.device.specs.State.{DevState, Sector, sector_at, holds, unreadable}
+use Rattle.device.specs.State.{DevState, Sector, sector_at, holds}
 use Rattle.device.specs.Steps.{Answer}
-use Rattle.device.specs.Actions.{Action, force, run}
+use Rattle.device.specs.Actions.{Action, run}
 use Rattle.device.specs.declared.fault.DeviceFault.{DeviceFault}
 use Rattle.device.specs.declared.fault.Cause.TheVariants.{Spent}
 use Rattle.label.specs.declared.label.Label.{Label}
 use Rattle.label.specs.Label.{label_bytes}
 use Rattle.label.specs.Position.{volume_sector}
-use Rattle.item.specs.Meaning.{Bank, WholeBank}
-use Rattle.model.specs.Refusals.{Refusal, Outcome}
+use Rattle.item.specs.Meaning.{Bank}
+use Rattle.model.specs.Refusals.{Outcome}
 use Rattle.model.specs.Reading.{Transaction, Reading}
-use Rattle.model.specs.Calls.{Session, Plan, Left, finished, acted}
+use Rattle.model.specs.Calls.{Session, Plan, finished, acted}
 use Rattle.life.specs.Disk.{Disk, Writes, Whole}
 use Rattle.life.specs.Disk as disk
-use Rattle.life.specs.Format.{Rec, Format, chain_items}
 use Rattle.life.specs.Calls.{book_ids, Inside}
 use Rattle.life.specs.Calls as calls
 use Rattle.life.specs.Life.{Entry, Finds}
 use Rattle.life.specs.Life as life
 use Rattle.life.specs.Items.{open_ids}
-use Rattle.life.proofs.Disk.{Current, Kept}
+use Rattle.life.proofs.Disk.{Kept}
 use Rattle.life.proofs.Lists.{in_all}
 use Rattle.life.proofs.Second.{life_stands}
 use Rattle.layout.specs.Read.{unread, progress}
@@ -35,7 +34,7 @@ use Rattle.layout.proofs.Books.{progress_booked}
 use Rattle.layout.proofs.Chains.{asked_all}
 use Rattle.layout.proofs.Real.{real}
 use Rattle.layout.proofs.Runs.{run_disk, run_answer, run_size}
-use Rattle.layout.proofs.Sizes.{Sized, SizedAt, all_sized, now_sized}
+use Rattle.layout.proofs.Sizes.{SizedAt, all_sized, now_sized}
 use Rattle.layout.proofs.Matches.{Matches}
 
 -- Calls that act.

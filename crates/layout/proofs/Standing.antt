@@ -1,5 +1,5 @@
 -- What is true of every life by the calls. Assumes nothing.
-use Rattle.std.proofs.Common.{◌≡◌, ℕ, ◌+◌, ◌-◌, ◌/◌, ◌%◌, ◌<◌, ◌≤◌, Bool, true, false, cond, ◌⊎◌, List, [], ◌∷◌, length, Some, None, Ok, Err, Option, sym, refl, ap, ◌∙◌, subst, inl, inr, mod-eq_of_lt, arith}
+use Rattle.std.proofs.Common.{◌≡◌, ℕ, ◌+◌, ◌-◌, ◌/◌, ◌%◌, ◌<◌, ◌≤◌, true, cond, ◌⊎◌, List, length, Some, None, Ok, Err, Option, sym, refl, ap, ◌∙◌, subst, inl, inr, mod-eq_of_lt, arith}
 use Rattle.std.proofs.lemmas.List.{get_or_past}
 use Rattle.std.proofs.lemmas.Bool.{cases_lt}
 use Rattle.device.specs.State.{DevState, Sector, sector_at, unreadable}
@@ -10,7 +10,6 @@ use Rattle.label.specs.declared.label.Label.{Label}
 use Rattle.label.specs.Position.{log_sector}
 use Rattle.item.specs.Meaning.{Bank, WholeBank}
 use Rattle.model.specs.Refusals.{Refusal, Outcome, device_refusal}
-use Rattle.model.specs.Items.{Book}
 use Rattle.model.specs.Calls.{Session, Plan, Counts, finished, acted, replay_plan, replay_call}
 use Rattle.life.specs.Disk.{Disk}
 use Rattle.life.specs.Disk as disk
@@ -25,10 +24,9 @@ use Rattle.life.proofs.Second.{life_stands}
 use Rattle.layout.specs.Read.{unread, progress}
 use Rattle.layout.specs.Real.{Usable}
 use Rattle.layout.specs.Volumes.{Volume, accepted, after_run, disk_of}
-use Rattle.layout.specs.Lives.{Life, Account, Again, Lived, LivesStand}
-use Rattle.layout.proofs.Ring.{limited}
+use Rattle.layout.specs.Lives.{Account, Again, Lived, LivesStand}
 use Rattle.layout.proofs.Real.{real}
-use Rattle.layout.proofs.Deciding.{Decided, replay_decides}
+use Rattle.layout.proofs.Deciding.{replay_decides}
 use Rattle.layout.proofs.Showing.{acted_answer, acted_device, acted_session, Fair, Ran, normal, Facts, facts}
 use Rattle.layout.proofs.Steps.{home_here, replay_ran}
 use Rattle.layout.proofs.Replaying.{Decides, todo, shown}

@@ -1,35 +1,33 @@
 -- Each step of a life by the calls is a step of a life over the real layout. Assumes nothing.
-use Rattle.std.proofs.Common.{◌≡◌, ℕ, ◌+◌, ◌-◌, ◌*◌, ◌/◌, ◌%◌, ◌<◌, ◌≤◌, Bool, true, false, cond, ◌⊎◌, List, [], ◌∷◌, ◌++◌, length, get_or, Some, None, Ok, Err, Option, sym, refl, ap, ◌∙◌, subst, inl, inr, mod-lt, arith}
+use Rattle.std.proofs.Common.{◌≡◌, ℕ, ◌+◌, ◌%◌, ◌<◌, ◌≤◌, true, false, cond, ◌⊎◌, List, [], ◌∷◌, ◌++◌, Some, None, Ok, Err, Option, sym, refl, ap, ◌∙◌, subst, inl, inr, mod-lt, arith}
 use Rattle.std.specs.List.{AllByRecursion}
 use Rattle.std.proofs.lemmas.List.{get_or_past}
 use Rattle.std.proofs.lemmas.Bool.{cases_lt}
 use Rattle.codec.specs.Fields.{Bytes}
-use Rattle.device.specs.State.{DevState, Sector, sector_at, holds, unreadable}
+use Rattle.device.specs.State.{DevState, Sector, sector_at, unreadable}
 use Rattle.device.specs.Actions.{Action, force, run}
 use Rattle.label.specs.declared.label.Label.{Label}
-use Rattle.label.specs.Label.{label_bytes, limits}
+use Rattle.label.specs.Label.{limits}
 use Rattle.item.specs.Meaning.{Bank, WholeBank}
-use Rattle.model.specs.Refusals.{Refusal, refusal, by_session, Outcome, ◌>>=◌, need}
+use Rattle.model.specs.Refusals.{refusal, by_session, Outcome, ◌>>=◌, need}
 use Rattle.model.specs.Reading.{Reading, read_chain}
-use Rattle.model.specs.Calls.{Session, Plan, Counts, acted, settles, label_actions, label_plan, label_call, replay_plan, replay_call, commit_plan, commit_call, clear_plan, clear_call, patches, region_bytes}
+use Rattle.model.specs.Calls.{Session, Plan, acted, settles, label_actions, label_plan, label_call, commit_plan, commit_call, clear_plan, clear_call, patches, region_bytes}
 use Rattle.life.specs.Disk.{Disk, Writes, In}
 use Rattle.life.specs.Disk as disk
-use Rattle.life.specs.Log.{limit}
 use Rattle.life.specs.Format.{Rec, Format, Fits, Transaction, chain_items}
 use Rattle.life.specs.Format as format
-use Rattle.life.specs.Items.{Item, ByteHolds, Touched, Open, Distinct, open_ids}
 use Rattle.life.specs.Calls.{Readable, byte_at}
 use Rattle.life.specs.Calls as calls
 use Rattle.life.specs.Life.{Entry, transactions, secure, Finds}
 use Rattle.life.specs.Life as life
-use Rattle.life.proofs.Disk.{Current, Kept}
+use Rattle.life.proofs.Disk.{Kept}
 use Rattle.life.proofs.Inside.{commit_inside, replay_inside, clear_inside}
 use Rattle.life.proofs.Second.{life_stands}
 use Rattle.layout.specs.Real.{Usable}
 use Rattle.layout.specs.Chains.{Three, ChainRead}
 use Rattle.layout.specs.Volumes.{Volume, accepted, after_run, served, disk_of}
-use Rattle.layout.specs.Lives.{Sectored, Cut, fresh, Life, labelled, commits, forces, clears, replays, cuts, Account, went, all_items, Home, Replayed}
-use Rattle.layout.proofs.Ring.{ring, limited, sane}
+use Rattle.layout.specs.Lives.{Sectored, Cut, fresh, Life, labelled, commits, forces, clears, cuts, Account, went, all_items, Home}
+use Rattle.layout.proofs.Ring.{sane}
 use Rattle.layout.proofs.Real.{real}
 use Rattle.layout.proofs.Clearing.{clearing_rec}
 use Rattle.layout.proofs.Labelling.{label_acts, first_fits, label_same}
@@ -37,8 +35,8 @@ use Rattle.layout.proofs.Committing.{commit_step}
 use Rattle.layout.proofs.Clearings.{ClearSteps, clear_step}
 use Rattle.layout.proofs.Sizes.{SizedAt, puts_sized, label_whole, replays_sized, clearings_sized, labels_sized, inside_below, labels_below}
 use Rattle.layout.proofs.Matches.{Matches}
-use Rattle.layout.proofs.Deciding.{finding, sought_here, chain_here, patches_same, Decided, replay_decides}
-use Rattle.layout.proofs.Showing.{acted_answer, acted_device, book_listed, Match, Fair, Ran, ran, acts_went, acts_fair, Shown, normal, Facts, facts}
+use Rattle.layout.proofs.Deciding.{finding, sought_here, chain_here, patches_same}
+use Rattle.layout.proofs.Showing.{acted_answer, acted_device, book_listed, Fair, Ran, ran, acts_went, acts_fair, Shown, normal, Facts, facts}
 
 module _ (L : Label) (n : ℕ) (bank : Bank) (u : Usable L n) (wide : WholeBank bank) (base : ℕ → Sector) where
   -- Label.

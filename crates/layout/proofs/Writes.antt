@@ -1,13 +1,12 @@
 -- What label, commit, clear and replay write to the log, in the words of lives. Assumes nothing.
 use Rattle.std.proofs.Common.{◌≡◌, ℕ, zero, suc, ◌+◌, ◌<◌, ◌≤◌, cond, eqb, List, [], ◌∷◌, ◌++◌, length, get_or, replicate, sym, refl, ap, ◌∙◌, mod-eq_of_lt, arith}
 use Rattle.device.specs.State.{Sector}
-use Rattle.device.specs.Actions.{Action, write, writes}
+use Rattle.device.specs.Actions.{write, writes}
 use Rattle.label.specs.declared.label.Label.{Label}
 use Rattle.label.specs.Position.{volume_sector, place}
 use Rattle.record.specs.Record.{packed, padded, sectors_for, sealed, header_at, saved_words, stored, sectors}
 use Rattle.model.proofs.Stamped.{length_padded}
 use Rattle.item.specs.Meaning.{Bank}
-use Rattle.model.specs.View.{held}
 use Rattle.model.specs.Lay.{blank, blanks, record_writes}
 use Rattle.life.specs.Format.{Rec, size, Fits}
 use Rattle.life.specs.Log as log

@@ -1,9 +1,8 @@
 -- A life on a volume of 64 sectors: labelled, replayed, a patch committed, and what one more replay then reads. Assumes nothing.
-use Rattle.std.specs.Prelude.{◌≡◌, ℕ, Some, Ok, Option}
+use Rattle.std.specs.Prelude.{◌≡◌, ℕ, Some, Ok}
 use Rattle.device.specs.State.{Sector, sector_at}
-use Rattle.item.specs.Meaning.{WholeBank}
 use Rattle.item.specs.Built.{built}
-use Rattle.model.specs.Calls.{Session, Counts, replay_call}
+use Rattle.model.specs.Calls.{Session, replay_call}
 use Rattle.model.specs.Cases.{label_here, labelled}
 use Rattle.layout.specs.Real.{Usable}
 use Rattle.layout.specs.Volumes.{Volume}

@@ -1,5 +1,5 @@
 -- What chains of records say: their ops read on a volume all of which can be read, and what the items of a transaction ask. Assumes nothing.
-use Rattle.std.specs.Prelude.{ℕ, Bool, true, false, cond, List, [], ◌∷◌, map, length, replicate, Ok, Err, Option, ◌==◌}
+use Rattle.std.specs.Prelude.{ℕ, Bool, true, false, cond, List, [], ◌∷◌, map, length, replicate, Ok, Err, ◌==◌}
 use Rattle.codec.specs.Fields.{zeros}
 use Rattle.device.specs.State.{DevState, holds}
 use Rattle.keys.specs.declared.patch.PatchKey.{PatchKey}

@@ -7,7 +7,7 @@ use Rattle.label.specs.declared.label.Label.{Label}
 use Rattle.label.specs.Position.{log_sector, volume_sector}
 use Rattle.record.specs.declared.header.RecordHeader.{RecordHeader}
 use Rattle.record.specs.Record.{is_header, held_cycle, sound, end_of}
-use Rattle.model.specs.View.{at, log_header, tail_of, held_by, held, greatest, due, in_order, coherent_from, coherent, first_free, head, stops, newest_of, newest, tail_stands, Found, ended, search_log}
+use Rattle.model.specs.View.{at, log_header, tail_of, held_by, held, greatest, due, in_order, coherent_from, first_free, head, stops, newest_of, newest, tail_stands, Found, ended, search_log}
 use Rattle.model.specs.Laws.{Searched, SearchFinds}
 use Rattle.model.proofs.Found.{top, most, long}
 

@@ -1,5 +1,5 @@
 -- Worked cases, on a volume of 64 sectors: a log of 32 from sector 32 on, window 16, records of 4096 bytes at most. Assumes nothing.
-use Rattle.std.specs.Prelude.{◌≡◌, ℕ, zero, true, false, List, [], ◌∷◌, ◌++◌, map, length, replicate, pos, Some, None, Ok, Err, Option, slice_index_or, slice_set}
+use Rattle.std.specs.Prelude.{◌≡◌, ℕ, true, false, List, [], ◌∷◌, ◌++◌, map, length, replicate, pos, Some, None, Ok, Err, Option, slice_index_or, slice_set}
 use Rattle.model.specs.Refusals.{refusal, by_item, by_session, Outcome, ◌>>=◌}
 use Rattle.codec.specs.Fields.{be32_bytes, le32_bytes, zeros}
 use Rattle.crc.specs.Crc.{crc32c}

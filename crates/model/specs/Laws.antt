@@ -3,7 +3,6 @@ use Rattle.std.specs.Prelude.{◌≡◌, ℕ, zero, suc, ◌+◌, ◌-◌, ◌*�
 use Rattle.std.specs.List.{AllByRecursion}
 use Rattle.codec.specs.Fields.{Bytes, zeros, joined}
 use Rattle.device.specs.State.{DevState, Sector, sector_at, holds, unreadable, bytes_of}
-use Rattle.device.specs.Steps.{read, reads}
 use Rattle.device.specs.Actions.{effect}
 use Rattle.label.specs.declared.label.Label.{Label}
 use Rattle.label.specs.Position.{cycle, log_sector, volume_sector}

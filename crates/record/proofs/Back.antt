@@ -1,12 +1,10 @@
 -- What is written is read back. Assumes nothing.
-use Rattle.std.proofs.Common.{◌≡◌, ℕ, zero, suc, ◌+◌, ◌-◌, ◌*◌, ◌/◌, ◌%◌, ◌^◌, ◌<◌, ◌≤◌, List, [], ◌∷◌, ◌++◌, length, get_or, take, drop, sym, refl, ap, ◌∙◌, add_assoc, arith}
-use Rattle.std.proofs.lemmas.List.{length-take, length-drop, length-append, length-replicate, get_or-drop, take_at, drop_at, append_assoc, drop-drop, take-append-drop}
+use Rattle.std.proofs.Common.{◌≡◌, ℕ, ◌+◌, ◌-◌, ◌*◌, ◌≤◌, List, [], ◌++◌, length, get_or, take, drop, sym, refl, ap, ◌∙◌, add_assoc, arith}
+use Rattle.std.proofs.lemmas.List.{length-append, length-replicate, get_or-drop, take_at, drop_at, drop-drop}
 use Rattle.codec.specs.Fields.{be32, le32, be32_bytes, le32_bytes, part, zeros}
 use Rattle.codec.proofs.Numbers.{be_within, le_within, be_same}
-use Rattle.label.specs.Position.{cycle}
-use Rattle.record.specs.Record.{header_of, header_front, header_back, header_bytes, first_words, saved_words, cycle_words, with_words}
-use Rattle.record.specs.Laws.{HeaderFits, HeaderRead, HeaderBack, SumAside, WordsBack, RecordLaws}
-use Rattle.label.specs.declared.label.Label.{Label}
+use Rattle.record.specs.Record.{header_of, header_back, header_bytes, first_words, saved_words, cycle_words, with_words}
+use Rattle.record.specs.Laws.{HeaderFits, HeaderBack, SumAside, WordsBack, RecordLaws}
 use Rattle.record.specs.declared.header.RecordHeader.{RecordHeader}
 use Rattle.record.proofs.Words.{words_back, length_words, length_cycles}
 

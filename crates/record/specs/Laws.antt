@@ -1,8 +1,6 @@
 -- What the definitions of this crate give together. Assumes nothing.
-use Rattle.std.specs.Prelude.{◌≡◌, ℕ, ◌+◌, ◌*◌, ◌^◌, ◌<◌, ◌≤◌, true, List, length, Some}
+use Rattle.std.specs.Prelude.{◌≡◌, ℕ, ◌*◌, ◌^◌, ◌<◌, ◌≤◌, true, List, length}
 use Rattle.codec.specs.Fields.{part}
-use Rattle.label.specs.Position.{position, split_of}
-use Rattle.label.specs.Label.{label_of, label_bytes}
 use Rattle.record.specs.Record.{is_header, header_of, header_bytes, with_sum, checksum, saved_words, stored, restored}
 use Rattle.label.specs.declared.label.Label.{Label}
 use Rattle.record.specs.declared.header.RecordHeader.{RecordHeader}

@@ -1,12 +1,12 @@
 -- The way back from the head. Assumes nothing.
-use Rattle.std.proofs.Common.{◌≡◌, ℕ, zero, suc, ◌+◌, ◌-◌, ◌%◌, ◌<◌, ◌≤◌, Bool, true, false, cond, not, ◌&&◌, ◌||◌, leb, List, [], get_or, Ok, Err, sym, refl, ap, ◌∙◌, arith}
+use Rattle.std.proofs.Common.{◌≡◌, ℕ, zero, suc, ◌+◌, ◌-◌, ◌%◌, ◌<◌, ◌≤◌, Bool, true, false, cond, not, ◌&&◌, ◌||◌, leb, List, Ok, Err, sym, refl, ap, ◌∙◌, arith}
 use Rattle.device.specs.State.{DevState}
 use Rattle.device.specs.Steps.{read}
 use Rattle.label.specs.declared.label.Label.{Label}
-use Rattle.label.specs.Position.{log_sector, volume_sector}
+use Rattle.label.specs.Position.{volume_sector}
 use Rattle.record.specs.Record.{is_header, header_of, sound, end_of}
 use Rattle.model.specs.Refusals.{refusal, by_record, Outcome, ◌>>=◌, need}
-use Rattle.model.specs.View.{at, stops, newest_of}
+use Rattle.model.specs.View.{at, newest_of}
 use Rattle.volume_log.specs.declared.found.Look.{Look}
 use Rattle.volume_log.specs.declared.found.Look.TheVariants.{Passed, Broken, Newest}
 use Rattle.volume_log.specs.Sectors.{log_of}

@@ -1,9 +1,9 @@
 -- Log sectors in order, one after the other. Assumes nothing.
-use Rattle.std.proofs.Common.{◌≡◌, ℕ, zero, suc, ◌+◌, ◌-◌, ◌<◌, ◌≤◌, Bool, true, false, cond, List, [], get_or, Ok, Err, sym, refl, ap, ◌∙◌, arith}
+use Rattle.std.proofs.Common.{◌≡◌, ℕ, suc, ◌+◌, ◌-◌, ◌<◌, Bool, true, false, List, Ok, Err, sym, ap, ◌∙◌, arith}
 use Rattle.device.specs.State.{DevState}
 use Rattle.device.specs.Steps.{read}
 use Rattle.label.specs.declared.label.Label.{Label}
-use Rattle.model.specs.Refusals.{refusal, by_record, Outcome, ◌>>=◌, need}
+use Rattle.model.specs.Refusals.{refusal, by_record, ◌>>=◌, need}
 use Rattle.model.specs.View.{in_order, coherent_from}
 use Rattle.volume_log.specs.Sectors.{log_of, sector_in_order}
 use Rattle.volume_log.proofs.Rows.{log_at}

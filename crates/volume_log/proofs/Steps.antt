@@ -1,5 +1,5 @@
 -- The steps one after the other. Assumes nothing.
-use Rattle.std.proofs.Common.{◌≡◌, ℕ, ◌+◌, ◌-◌, ◌%◌, ◌<◌, Bool, true, false, List, Ok, Err, Result, sym, refl, ap, ◌∙◌}
+use Rattle.std.proofs.Common.{◌≡◌, ℕ, ◌+◌, ◌%◌, ◌<◌, Bool, true, false, List, Ok, Err, Result, sym, refl, ap, ◌∙◌}
 use Rattle.device.specs.State.{DevState}
 use Rattle.device.specs.Steps.{read}
 use Rattle.label.specs.declared.label.Label.{Label}

@@ -1,4 +1,4 @@
-use Rattle.std.proofs.Common.{◌≡◌, ℕ, ◌+◌, ◌-◌, ◌*◌, ◌<◌, not, List, [], get_or, sym, ap, ◌∙◌, arith}
+use Rattle.std.proofs.Common.{◌≡◌, ℕ, ◌+◌, ◌-◌, ◌*◌, ◌<◌, not, List, sym, ap, ◌∙◌, arith}
 use Rattle.item.specs.Buffer.{map_bits, none_set}
 use Rattle.item.specs.Regions.{regions}
 use Rattle.item.specs.Whole.{patched}

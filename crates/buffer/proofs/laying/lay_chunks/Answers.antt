@@ -1,4 +1,4 @@
-use Rattle.std.proofs.Common.{◌≡◌, ℕ, ◌+◌, ◌*◌, ◌<◌, ◌≤◌, List, length, get_or, drop, sym, refl, ap, ◌∙◌, arith}
+use Rattle.std.proofs.Common.{◌≡◌, ℕ, ◌+◌, ◌*◌, List, length, get_or, drop, sym, ap, ◌∙◌, arith}
 use Rattle.codec.specs.Fields.{joined}
 use Rattle.item.specs.Buffer.{map_bits, cover}
 use Rattle.item.specs.Covers.{cover_of}

@@ -1,4 +1,4 @@
-use Rattle.std.proofs.Common.{◌≡◌, ℕ, ◌+◌, ◌-◌, ◌*◌, ◌<◌, ◌≤◌, Bool, true, false, ◌&&◌, eqb, List, [], length, get_or, drop, sym, ap, ◌∙◌, arith}
+use Rattle.std.proofs.Common.{◌≡◌, ℕ, ◌+◌, ◌-◌, ◌<◌, ◌≤◌, true, false, length, drop, sym, ap, ◌∙◌, arith}
 use Rattle.item.specs.Regions.{regions}
 use Rattle.buffer.proofs.Matching.{left, left_all, left_none, left_end, data_length, turn}
 use Rattle.buffer.proofs.runs.runs_match.Goals as goal

@@ -1,4 +1,4 @@
-use Rattle.std.proofs.Common.{◌≡◌, ℕ, ◌-◌, ◌<◌, ◌≤◌, drop}
+use Rattle.std.proofs.Common.{◌≡◌, ◌-◌, ◌≤◌, drop}
 use Rattle.item.specs.Buffer.{map_bits, regions_fit}
 use Rattle.item.specs.Regions.{regions}
 use Rattle.buffer.proofs.Matching.{left}

@@ -1,4 +1,4 @@
-use Rattle.std.proofs.Common.{◌≡◌, ◌≤◌, sym, ap, ◌∙◌, subst, arith}
+use Rattle.std.proofs.Common.{◌≤◌, sym, subst, arith}
 use Rattle.chain.specs.Standing.{Stands}
 use Rattle.chain.proofs.Chained.{stands}
 use Rattle.chain.proofs.records.read_record.Goals as goal

@@ -1,10 +1,10 @@
-use Rattle.std.proofs.Common.{◌≡◌, ℕ, ◌-◌, ◌++◌, take, drop, Ok, Err, sym, ap, ◌∙◌}
+use Rattle.std.proofs.Common.{ℕ, ◌-◌, ◌++◌, take, drop, Ok, Err, sym, ap, ◌∙◌}
 use Rattle.std.proofs.lemmas.Result.{err_from_is_err_and}
 use Rattle.volume_log.specs.Faults.{outcome}
 use Rattle.volume_log.proofs.Steps.{refused, accepted}
 use Rattle.model.specs.Refusals.{◌>>=◌}
 use Rattle.record.specs.Record.{header_of}
-use Rattle.chain.specs.Records.{sum_answer, header_answer, restored_data}
+use Rattle.chain.specs.Records.{header_answer, restored_data}
 use Rattle.chain.proofs.Whole.{front_length, same_length}
 use Rattle.chain.proofs.records.restore_front.Goals as goal
 

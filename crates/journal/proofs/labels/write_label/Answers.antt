@@ -1,7 +1,6 @@
-use Rattle.std.proofs.Common.{◌≡◌, [], ◌∷◌, ◌++◌, Err, sym, ap, ◌∙◌}
+use Rattle.std.proofs.Common.{[], ◌∷◌, ◌++◌, ◌∙◌}
 use Rattle.std.proofs.lemmas.Result.{err_from_is_err_and}
-use Rattle.device.specs.Actions.{write, force, run, zero_writes}
-use Rattle.label.specs.Label.{label_bytes}
+use Rattle.device.specs.Actions.{force, zero_writes}
 use Rattle.model.specs.Calls.{first_writes}
 use Rattle.journal.proofs.Acting.{goes_on, ends_there, handed}
 use Rattle.journal.proofs.Labelling.{begun}

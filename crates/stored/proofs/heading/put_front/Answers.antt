@@ -1,4 +1,4 @@
-use mathlib.Core.Path.{◌≡◌, ap, ◌∙◌}
+use mathlib.Core.Path.{ap, ◌∙◌}
 use Rattle.codec.specs.Fields.{put, be32_bytes, le32_bytes}
 use Rattle.stored.proofs.Filled.{front_filled}
 use Rattle.stored.proofs.heading.put_front.Goals as goal

@@ -1,14 +1,11 @@
-use mathlib.Core.Path.{◌≡◌, refl, sym, ap, ◌∙◌}
-use mathlib.Core.List.{◌++◌}
-use Prim.Native.Nat.{◌+◌, ◌-◌, ◌*◌, ◌/◌, ◌%◌, ◌≤◌}
+use mathlib.Core.Path.{◌≡◌, ap, ◌∙◌}
+use Prim.Native.Nat.{◌+◌, ◌*◌, ◌/◌, ◌≤◌}
 use native.Mathlib.Nat.{mul-le-mul_left}
 use native.Mathlib.Omega.{arith}
 use lib.Bits.{bit_and, and_mask}
 use lib.ListN.{length}
-use Rattle.codec.specs.Fields.{put, be32_bytes, zeros}
+use Rattle.codec.specs.Fields.{put, be32_bytes}
 use Rattle.codec.proofs.Puts.{length_put}
-use Rattle.label.specs.Position.{cycle, position}
-use Rattle.record.specs.Record.{cycle_words}
 use Rattle.record.proofs.Words.{cycle_more, low_bytes}
 use Rattle.stored.proofs.saved.cycle_words.Goals as goal
 

@@ -1,11 +1,10 @@
-use mathlib.Core.Path.{◌≡◌, refl, sym, ap, ◌∙◌}
-use mathlib.Core.List.{◌++◌}
+use mathlib.Core.Path.{◌≡◌, ap, ◌∙◌}
 use Prim.Native.Nat.{◌+◌, ◌-◌, ◌*◌, ◌≤◌}
 use native.Mathlib.Omega.{arith}
 use lib.ListN.{length, take, drop}
-use Rattle.codec.specs.Fields.{put, part, zeros}
+use Rattle.codec.specs.Fields.{put}
 use Rattle.codec.proofs.Puts.{length_put}
-use Rattle.record.specs.Record.{saved_words, first_words}
+use Rattle.record.specs.Record.{saved_words}
 use Rattle.record.proofs.Words.{saved_more}
 use Rattle.stored.proofs.saved.saved_words.Goals as goal
 

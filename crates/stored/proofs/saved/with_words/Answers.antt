@@ -2,7 +2,7 @@ use mathlib.Core.Path.{◌≡◌, ap, ◌∙◌}
 use Prim.Native.Nat.{◌+◌, ◌-◌, ◌*◌, ◌≤◌}
 use native.Mathlib.Omega.{arith}
 use lib.ListN.{length, take, drop}
-use Rattle.codec.specs.Fields.{put, part}
+use Rattle.codec.specs.Fields.{put}
 use Rattle.record.specs.Record.{with_words}
 use Rattle.record.proofs.Words.{word_more}
 use Rattle.stored.proofs.saved.with_words.Goals as goal

@@ -1,4 +1,4 @@
-use mathlib.Core.Path.{◌≡◌, ap, ◌∙◌}
+use mathlib.Core.Path.{ap, ◌∙◌}
 use lib.Bits.{bit_xor}
 use Rattle.codec.specs.Fields.{zeros}
 use Rattle.crc.specs.Crc.{crc_of}

@@ -1,4 +1,4 @@
-use Rattle.std.proofs.Common.{◌≡◌, sym, ap, ◌∙◌}
+use Rattle.std.proofs.Common.{sym, ◌∙◌}
 use Rattle.volume_log.proofs.Rows.{never}
 use Rattle.volume_log.proofs.Ordered.{order_goes, order_stops}
 use Rattle.volume_log.proofs.order.coherent.Goals as goal
