@@ -6,7 +6,7 @@ usage: python3 tools/respell.py [ROOT] [--dry]
 A name that some .antt file of crates/ declares (a definition, a lemma, a field, a constructor) and that has a dash between words
 gets an underscore there, and in upper camel case where it begins with a capital: read-bytes is read_bytes, Run-laws is RunLaws.
 A dash beside an operator stays (run-++). Names that Rattle makes (goals, steps) and names of other libraries keep theirs.
-Functions of src/, strings, inputs and outputs are not touched. Run it once, after port.py.
+It reads whole files; names of src/ have no dash, so they stay, as do words in strings that no definition is called by. Run it once, after port.py.
 """
 import os
 import re

@@ -35,8 +35,8 @@ session_at e t a newest = record { label = label_here; e = e; t = t; a = a; newe
 
 -- count of regions, flags, length, the low half of the sector, then the high half, the map words and the map
 abbrev pub first_of_buffer : ℕ → ℕ → ℕ → ℕ → List ℕ → List ℕ
-first_of_buffer count flags length low high-and-map =
-    0x3C ∷ 0x12 ∷ count ∷ 0 ∷ flags ∷ 0 ∷ length ∷ 0 ∷ le32_bytes low ++ high-and-map
+first_of_buffer count flags length low high_and_map =
+    0x3C ∷ 0x12 ∷ count ∷ 0 ∷ flags ∷ 0 ∷ length ∷ 0 ∷ le32_bytes low ++ high_and_map
 
 -- a patch of chunk 0 of one sector: 128 bytes v
 abbrev pub chunk_0 : ℕ → ℕ → List ℕ

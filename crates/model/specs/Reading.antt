@@ -39,7 +39,7 @@ begun = record { records = 0; seen = []; pending = []; done = []; book = empty_b
 
 -- one more op was seen, and the open transactions are these
 abbrev pub saw : Op → List Open → Reading → Reading
-saw o open-ones r = record { records = r.records; seen = r.seen ++ (o ∷ []); pending = open-ones; done = r.done; book = r.book }
+saw o open_ones r = record { records = r.records; seen = r.seen ++ (o ∷ []); pending = open_ones; done = r.done; book = r.book }
 
 -- The regions of a transaction, from the ops since its start.
 

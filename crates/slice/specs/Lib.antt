@@ -1,1 +1,1 @@
--- The definitions stand in part.
+-- The definitions stand in slicing.
