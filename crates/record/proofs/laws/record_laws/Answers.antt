@@ -1,5 +1,5 @@
 use Rattle.record.proofs.Back.{record_laws}
 use Rattle.record.proofs.laws.record_laws.Goals as goal
 
-pub returns : goal.returns
-returns c = record_laws
+pub returns-clause-laws : goal.returns-clause-laws
+returns-clause-laws c = record_laws
