@@ -4,17 +4,10 @@
 ghost use Rattle.std.specs.Prelude.{◌≡◌, true};
 ghost use Rattle.life.specs.Life.{LifeStands};
 
-// The answer of a theorem that stands.
-fn stands() -> bool
-    ensures { result ≡ true }
-{
-    true
-}
-
 // Every life has an account, by one choice at each accepted replay, and what Lived says is true of it.
 pub fn life_stands() -> bool
     ensures answer { result ≡ true }
     ensures lives { LifeStands }
 {
-    stands()
+    true
 }

@@ -2,15 +2,10 @@
 ghost use Rattle.std.specs.Prelude.{◌≡◌};
 ghost use Rattle.model.specs.Cases.{Table};
 
-fn table()
-    ensures { Table }
-{}
-
 // How many worked cases there are, each of which holds.
 pub fn cases() -> u8
     ensures table { Table }
     ensures count { result ≡ 8 }
 {
-    table();
     8
 }

@@ -2,5 +2,5 @@
 use Rattle.life.proofs.Second.{life_stands}
 use Rattle.life.proofs.life_stands.Goals as goal
 
-pub returns : goal.returns
-returns c = record { answer = c.stands.ensures; lives = life_stands }
+pub returns-clause-lives : goal.returns-clause-lives
+returns-clause-lives c = life_stands

@@ -10,10 +10,10 @@ use Rattle.model.proofs.Begins.{replay_steady}
 use Rattle.model.proofs.Found.{search_says}
 use Rattle.model.proofs.Finds.{search_finds}
 use Rattle.model.proofs.Laid.{lays_bytes, laid_says}
-use Rattle.model.proofs.laws.hold.Goals as goal
+use Rattle.model.proofs.laws.transaction_number.Goals as goal
 
-pub returns : goal.returns
-returns c = record {
+pub returns-clause-laws : goal.returns-clause-laws
+returns-clause-laws c = record {
   written = written_reads;
   ops = ops_read;
   says = commit_says;
