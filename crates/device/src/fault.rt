@@ -2,6 +2,9 @@
 ghost use Rattle.std.specs.Prelude.{◌≡◌};
 ghost use Rattle.device.specs.Faults.{cause_number};
 
+use std::error::Error;
+use std::fmt;
+
 // No action is left, the sector cannot be read, or it lies beyond the device's end.
 #[derive(Clone, Copy, PartialEq, Eq, Debug)]
 pub enum Cause {
@@ -16,6 +19,18 @@ pub struct DeviceFault {
     pub sector: u64,
 }
 
+impl Cause {
+    // The refusal for this cause at `sector`.
+    pub fn at(self, sector: u64) -> DeviceFault
+        ensures { result ≡ record { cause = self; sector = sector } }
+    {
+        DeviceFault {
+            cause: self,
+            sector,
+        }
+    }
+}
+
 impl DeviceFault {
     // The number under which a refusal is told.
     pub fn number(&self) -> u8
@@ -28,3 +43,21 @@ impl DeviceFault {
         }
     }
 }
+
+impl fmt::Display for Cause {
+    fn fmt<W: fmt::Write>(&self, f: &mut fmt::Formatter<W>) -> fmt::Result {
+        f.write_str(match self {
+            Cause::Spent => "no action is left",
+            Cause::Unreadable => "the sector cannot be read",
+            Cause::Beyond => "the sector lies beyond the end",
+        })
+    }
+}
+
+impl fmt::Display for DeviceFault {
+    fn fmt<W: fmt::Write>(&self, f: &mut fmt::Formatter<W>) -> fmt::Result {
+        write!(f, "{}: sector {}", self.cause, self.sector)
+    }
+}
+
+impl Error for DeviceFault {}

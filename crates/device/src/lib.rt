@@ -5,3 +5,4 @@ pub mod actions;
 pub mod fault;
 pub mod interface;
 pub mod laws;
+pub mod lent;

@@ -6,6 +6,8 @@ ghost use Rattle.faults.specs.declared.cause.Fault.TheVariants.{Device};
 use crate::cause::Fault;
 use crate::refusal::{Layer, Refusal};
 use device::fault::DeviceFault;
+use std::error::Error;
+use std::fmt;
 
 // The device's refusal travels up as it is.
 impl From<DeviceFault> for Fault {
@@ -16,12 +18,12 @@ impl From<DeviceFault> for Fault {
     }
 }
 
-impl Fault {
-    // Its number, layer and place.
-    pub fn refusal(&self) -> Refusal
-        ensures { result ≡ refusal_of self.now }
-    {
-        match self {
+// What a cause tells: its number, layer and place.
+impl From<Fault> for Refusal {
+    ghost from_gives = { λ f r. r ≡ refusal_of f };
+
+    fn from(fault: Fault) -> Refusal {
+        match fault {
             Fault::Device(fault) => Refusal {
                 number: fault.number(),
                 layer: Layer::Device,
@@ -37,3 +39,14 @@ impl Fault {
         }
     }
 }
+
+impl fmt::Display for Fault {
+    fn fmt<W: fmt::Write>(&self, f: &mut fmt::Formatter<W>) -> fmt::Result {
+        match self {
+            Fault::Device(fault) => write!(f, "{fault}"),
+            Fault::Label => f.write_str("a field of the label breaks its limit"),
+        }
+    }
+}
+
+impl Error for Fault {}

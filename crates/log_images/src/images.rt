@@ -5,7 +5,7 @@ use journal::labels::label_volume;
 use label::geometry::Geometry;
 use label::label::Label;
 use label::position::split;
-use memory::cell::{Cell, blank_cells};
+use memory::cell::blank_cells;
 use memory::ram::Memory;
 use record::header::RecordHeader;
 use std::process::Abort;
@@ -41,7 +41,7 @@ pub fn labelled(rt: &HostRuntime) -> Result<Memory, Fail> {
 pub fn without(rt: &impl Abort, volume: Memory, sector: usize) -> Result<Memory, Fail> {
     let mut cells = volume.into_cells();
     assert!(rt; sector < cells.len());
-    cells[sector] = Cell::Lost;
+    cells[sector] = None;
     Ok(Memory::new(cells, 1000, false)?)
 }
 

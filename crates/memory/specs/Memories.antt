@@ -1,8 +1,7 @@
 -- What a device in memory is, and when one is made. Assumes nothing.
 use Rattle.std.specs.Prelude.{ℕ, ◌^◌, Bool, cond, List, map, length, Ok, Err, vec_items, vec_len, Result, nat_le, nat_lt}
 use Rattle.device.specs.State.{DevState, bundle}
-use Rattle.memory.specs.Cells.{cell_sector, lost_count}
-use Rattle.memory.specs.declared.cell.Cell.{Cell}
+use Rattle.memory.specs.Cells.{Cell, cell_sector, lost_count}
 use Rattle.memory.specs.declared.ram.Memory.{Memory}
 use Rattle.memory.specs.declared.ram.MemoryLimit.{MemoryLimit}
 use Rattle.memory.specs.declared.ram.MemoryLimit.TheVariants.{Sectors, Unreadable, Actions}

@@ -3,6 +3,8 @@ ghost use Rattle.std.specs.Prelude.{◌≡◌, ◌^◌, ◌<◌, ◌≤◌, vec_
 ghost use Rattle.memory.specs.Cells.{lost_count};
 
 use crate::cell::Cell;
+use std::error::Error;
+use std::fmt;
 
 pub mod calls;
 
@@ -24,6 +26,18 @@ pub enum MemoryLimit {
     Unreadable,
     Actions,
 }
+
+impl fmt::Display for MemoryLimit {
+    fn fmt<W: fmt::Write>(&self, f: &mut fmt::Formatter<W>) -> fmt::Result {
+        f.write_str(match self {
+            MemoryLimit::Sectors => "too many sectors",
+            MemoryLimit::Unreadable => "too many sectors that cannot be read",
+            MemoryLimit::Actions => "too many actions",
+        })
+    }
+}
+
+impl Error for MemoryLimit {}
 
 impl Memory {
     // Whether a force came after the last write.

@@ -4,7 +4,7 @@ use lib.Seq.{take-set-lt}
 use Rattle.std.proofs.lemmas.List.{get_or-take, get_or-drop, take-set-le, drop-set-lt, drop-set-add}
 use Rattle.std.proofs.lemmas.Bool.{lt-ltb, le-ltb, cases_lt}
 use Rattle.device.specs.State.{DevState, Sector, holds, unreadable}
-use Rattle.device.specs.Steps.{refusal, fault, readable, read, done, given_or, read_answer, read_bytes, write_answer, write_step, written}
+use Rattle.device.specs.Steps.{refusal, fault, readable, read, done, given_or, read_answer, read_bytes, write_answer, write_step, written, force_step, forced}
 use Rattle.slicing.specs.Slices.{slice_state, slice_write, Outside}
 use Rattle.device.specs.declared.fault.Cause.TheVariants.{Spent}
 use Rattle.device.specs.declared.fault.DeviceFault.{DeviceFault}
@@ -77,3 +77,19 @@ pub write_outside : (s : DevState) (a n i : ℕ) (b : List ℕ) → Outside a n 
 write_outside s a n i b =
     ⊎_elim (λ h. rw (lt-ltb i (min (s.size - a) n) h) (inside s a n i b (omega arith) (ltb (a + i) s.size) (eqb s.actions 0))
     ) (λ h. rw (le-ltb i (min (s.size - a) n) h) (refl, refl, refl)) (cases_lt i (min (s.size - a) n))
+
+forced_part : (s : DevState) (a n : ℕ) (z : Bool) → slice_state (cond z s (forced s)) a n ≡ cond z (slice_state s a n) (forced (slice_state s a n))
+forced_part s a n true = refl
+forced_part s a n false = refl
+
+-- the slice of a device that was forced through it
+pub slice_forced : (s : DevState) (a n : ℕ) → slice_state (force_step s) a n ≡ force_step (slice_state s a n)
+slice_forced s a n = forced_part s a n (eqb s.actions 0)
+
+unforced : (s : DevState) (a n : ℕ) (z : Bool) → Outside a n s (cond z s (forced s))
+unforced s a n true = (refl, refl, refl)
+unforced s a n false = (refl, refl, refl)
+
+-- a force leaves what lies outside
+pub force_outside : (s : DevState) (a n : ℕ) → Outside a n s (force_step s)
+force_outside s a n = unforced s a n (eqb s.actions 0)

@@ -1,10 +1,9 @@
 // Making a device in memory, and its calls.
-ghost use Rattle.std.specs.Prelude.{◌≡◌, ◌<◌, vec_len, slice_set, refl};
-ghost use Rattle.memory.specs.Cells.{cell_sector, lost_count};
+ghost use Rattle.std.specs.Prelude.{◌≡◌, refl};
+ghost use Rattle.memory.specs.Cells.{lost_count};
 ghost use Rattle.memory.specs.Memories.{memory_state, made_state, new_memory};
 ghost use Rattle.memory.specs.Sized.{memory_sized};
-ghost use Rattle.device.specs.Steps.{readable, done, given_or, write_answer};
-ghost use Rattle.memory.specs.declared.cell.Cell.TheVariants.{Held};
+ghost use Rattle.device.specs.Steps.{write_answer};
 
 use crate::cell::Cell;
 use crate::ram::{Memory, MemoryLimit};
@@ -21,40 +20,7 @@ const ACTIONS_END: u64 = 1 << 62;
 fn count_lost(cells: &[Cell]) -> usize
     ensures { result ≡ lost_count cells.now }
 {
-    let mut lost = 0;
-    for cell in cells {
-        match cell {
-            Cell::Held(_) => {}
-            Cell::Lost => lost += 1,
-        }
-    }
-    lost
-}
-
-// Reads a cell that lies at `sector`.
-fn read_cell(cell: &Cell, sector: u64, out: &mut [u8; 512]) -> Result<(), DeviceFault>
-    ensures answer { result ≡ done (readable sector (cell_sector cell.now)) }
-    ensures bytes { out.new ≡ given_or (readable sector (cell_sector cell.now)) out.old }
-{
-    match cell {
-        Cell::Held(bytes) => {
-            *out = *bytes;
-            Ok(())
-        }
-        Cell::Lost => Err(DeviceFault {
-            cause: Cause::Unreadable,
-            sector,
-        }),
-    }
-}
-
-// Has a cell hold the bytes.
-fn hold(cells: &mut Vec<Cell>, index: usize, bytes: &[u8; 512])
-    requires { index < vec_len cells.old }
-    ensures items { cells.new.items ≡ slice_set cells.old.items index (Held bytes.now) }
-    ensures len { vec_len cells.new ≡ vec_len cells.old }
-{
-    cells[index] = Cell::Held(*bytes);
+    cells.iter().filter(|cell| cell.is_none()).count()
 }
 
 impl Memory {
@@ -82,17 +48,11 @@ impl Memory {
     fn admit(&self, sector: u64) -> Result<(), DeviceFault>
         ensures { result ≡ write_answer (memory_state self.now) sector }
     {
-        if sector >= self.cells.len() as u64 {
-            return Err(DeviceFault {
-                cause: Cause::Beyond,
-                sector,
-            });
+        if sector >= self.size() {
+            return Err(Cause::Beyond.at(sector));
         }
         if self.left == 0 {
-            return Err(DeviceFault {
-                cause: Cause::Spent,
-                sector,
-            });
+            return Err(Cause::Spent.at(sector));
         }
         Ok(())
     }
@@ -132,18 +92,18 @@ impl Device for Memory {
     }
 
     fn read(&self, sector: u64, out: &mut [u8; 512]) -> Result<(), DeviceFault> {
-        if sector >= self.size() {
-            return Err(DeviceFault {
-                cause: Cause::Beyond,
-                sector,
-            });
-        }
-        read_cell(&self.cells[sector as usize], sector, out)
+        let cell = self
+            .cells
+            .get(sector as usize)
+            .ok_or(Cause::Beyond.at(sector))?;
+        *out = cell.ok_or(Cause::Unreadable.at(sector))?;
+        Ok(())
     }
 
+    #[tactic(auto, using(crate::proofs::Held::lost_set, crate::proofs::Held::held_cells))]
     fn write(&mut self, sector: u64, bytes: &[u8; 512]) -> Result<(), DeviceFault> {
         self.admit(sector)?;
-        hold(&mut self.cells, sector as usize, bytes);
+        self.cells[sector as usize] = Some(*bytes);
         self.left -= 1;
         self.settled = false;
         Ok(())
@@ -151,10 +111,7 @@ impl Device for Memory {
 
     fn force(&mut self) -> Result<(), DeviceFault> {
         if self.left == 0 {
-            return Err(DeviceFault {
-                cause: Cause::Spent,
-                sector: 0,
-            });
+            return Err(Cause::Spent.at(0));
         }
         self.left -= 1;
         self.settled = true;
