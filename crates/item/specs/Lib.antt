@@ -1,6 +1,7 @@
 pub mod Meaning
 pub mod Covers
 pub mod Regions
+pub mod Items
 pub mod Classes
 pub mod Range
 pub mod Buffer

@@ -2,7 +2,7 @@
 use keys::patch::PatchKey;
 
 // A patch and a cancel have a range of sectors, an open and a close the id of an intent.
-#[derive(Clone, Copy)]
+#[derive(Clone, Copy, PartialEq, Eq, Debug)]
 pub enum Class {
     Malformed,
     Patch(PatchKey),

@@ -4,12 +4,12 @@ ghost use Rattle.keys.specs.declared.patch.PatchKey.{PatchKey};
 ghost use Rattle.item.specs.Meaning.{Meaning, patch};
 ghost use Rattle.item.specs.Covers.{covers_sector, laid};
 ghost use Rattle.item.specs.Classes.{class_of};
-ghost use Rattle.item.specs.Regions.{regions};
+ghost use Rattle.item.specs.Items.{regions_of};
 
 use crate::class::Class;
-use crate::place::Place;
+use crate::item::Item;
 
-// A kind of items. An item is the places of its regions in a buffer; what it means is told by its regions alone.
+// A kind of items; what an item means is told by its regions alone.
 pub trait ItemKind {
     // the numbers of its types
     ghost has: { ℕ → Bool };
@@ -32,14 +32,14 @@ pub trait ItemKind {
         ensures { result ≡ early };
 
     // What an item asks.
-    fn classify(&self, bytes: &[u8], places: &[Place]) -> Class
-        ensures { result ≡ class_of (meaning (regions bytes.now places.now)) };
+    fn classify(&self, item: Item<'_>) -> Class
+        ensures { result ≡ class_of (meaning (regions_of item.entry)) };
 
     // Whether an item gives sector j of its range a byte.
-    fn covers(&self, bytes: &[u8], places: &[Place], j: usize) -> bool
-        ensures { result ≡ covers_sector (meaning (regions bytes.now places.now)) j };
+    fn covers(&self, item: Item<'_>, j: usize) -> bool
+        ensures { result ≡ covers_sector (meaning (regions_of item.entry)) j };
 
     // Lays an item over sector j of its range.
-    fn lay(&self, bytes: &[u8], places: &[Place], j: usize, sector: &mut [u8; 512])
-        ensures { sector.new ≡ laid (meaning (regions bytes.now places.now)) j sector.old };
+    fn lay(&self, item: Item<'_>, j: usize, sector: &mut [u8; 512])
+        ensures { sector.new ≡ laid (meaning (regions_of item.entry)) j sector.old };
 }

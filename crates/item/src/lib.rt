@@ -3,7 +3,7 @@
 
 pub mod cases;
 pub mod class;
+pub mod item;
 pub mod kind;
 pub mod place;
 pub mod range;
-pub mod region;

@@ -2,11 +2,10 @@
 ghost use Rattle.keys.specs.Keys.{same_key};
 ghost use Rattle.std.proofs.Common.{rules};
 
-use search::entry::Entry;
 use search::key::Key;
 
 // A sector, and a length in sectors.
-#[derive(Clone, Copy)]
+#[derive(Clone, Copy, PartialEq, Eq, Debug)]
 pub struct PatchKey {
     pub sector: i64,
     pub length: u32,
@@ -22,17 +21,6 @@ impl Key for PatchKey {
     ghost transitive = { Prim.search rules };
 
     fn same_as(&self, other: &PatchKey) -> bool {
-        self.sector == other.sector && self.length == other.length
-    }
-}
-
-// A key is an entry that is found by itself.
-impl Entry for PatchKey {
-    type By = PatchKey;
-
-    ghost by = { λ e. e };
-
-    fn by(&self) -> &PatchKey {
-        self
+        self == other
     }
 }

@@ -7,7 +7,7 @@ abbrev pub further : Option ℕ → Option ℕ
 further None = None
 further (Some i) = Some (suc i)
 
--- the first place where a test passes, if any: place_of (eqb 7) (5 ∷ 7 ∷ 7 ∷ []) = Some 1
+-- the first place where a test passes, if any: place_of (nat_eq 7) (5 ∷ 7 ∷ 7 ∷ []) = Some 1
 abbrev pub place_of : {A : Type 0} → (A → Bool) → List A → Option ℕ
 place_of p [] = None
 place_of p (x ∷ xs) = cond (p x) (Some 0) (further (place_of p xs))

@@ -14,23 +14,13 @@ pub trait Entry {
         ensures { result.now ≡ by self.now };
 }
 
-// A number or an id is an entry that is found by itself.
-impl Entry for u32 {
-    type By = u32;
+// A key is an entry that is found by itself.
+impl<K: Key> Entry for K {
+    type By = K;
 
     ghost by = { λ e. e };
 
-    fn by(&self) -> &u32 {
-        self
-    }
-}
-
-impl Entry for u64 {
-    type By = u64;
-
-    ghost by = { λ e. e };
-
-    fn by(&self) -> &u64 {
+    fn by(&self) -> &K {
         self
     }
 }
@@ -41,10 +31,5 @@ pub fn find<E: Entry>(entries: &[E], key: &E::By) -> Option<usize>
     ensures place { result ≡ place_of (λ e. E.By.same (E.by e) key.now) entries.now }
     ensures alike { (k : E.By) → E.By.same key.now k ≡ true → result ≡ place_of (λ e. E.By.same (E.by e) k) entries.now }
 {
-    for (i, e) in entries.iter().enumerate() {
-        if e.by().same_as(key) {
-            return Some(i);
-        }
-    }
-    None
+    entries.iter().position(|e| e.by().same_as(key))
 }

@@ -1,6 +1,6 @@
 // What entries are found by.
-ghost use Rattle.std.specs.Prelude.{◌≡◌, Bool, true, nat_eq};
-ghost use Rattle.std.proofs.Common.{rules};
+ghost use Rattle.std.specs.Prelude.{◌≡◌, Bool, true};
+ghost use Rattle.std.proofs.Common.{◌∙◌};
 
 // A key, and when two keys are the same: an equivalence.
 pub trait Key {
@@ -16,32 +16,26 @@ pub trait Key {
     ghost transitive: { (x y z : Self) → same x y ≡ true → same y z ≡ true → same x z ≡ true };
 }
 
+// A number that entries are found by.
+pub trait Number: Ord {}
+
 // A transaction's number.
-impl Key for u32 {
-    ghost same = { nat_eq };
-
-    ghost reflexive = { Prim.search rules };
-
-    ghost symmetric = { Prim.search rules };
-
-    ghost transitive = { Prim.search rules };
-
-    fn same_as(&self, number: &u32) -> bool {
-        *self == *number
-    }
-}
+impl Number for u32 {}
 
 // An intent's id.
-impl Key for u64 {
-    ghost same = { nat_eq };
+impl Number for u64 {}
 
-    ghost reflexive = { Prim.search rules };
+// Two numbers are the same key where they are equal.
+impl<N: Number> Key for N {
+    ghost same = { N.eq };
 
-    ghost symmetric = { Prim.search rules };
+    ghost reflexive = { N.Eq.laws.refl };
 
-    ghost transitive = { Prim.search rules };
+    ghost symmetric = { λ x y e. N.Eq.laws.symm y x ∙ e };
 
-    fn same_as(&self, id: &u64) -> bool {
-        *self == *id
+    ghost transitive = { N.PartialEq.laws.trans };
+
+    fn same_as(&self, other: &N) -> bool {
+        self == other
     }
 }
