@@ -50,8 +50,11 @@ fn bytes_at<const K: usize>(b: &[u8], at: usize) -> [u8; K]
 
 impl Number for u16 {
     ghost width = { 2 };
+
     ghost of = { λ n. n };
+
     ghost bits = { λ x. x };
+
     ghost bits_back = { λ n small. refl };
 
     fn be_at(b: &[u8], at: usize) -> u16 {
@@ -65,8 +68,11 @@ impl Number for u16 {
 
 impl Number for u32 {
     ghost width = { 4 };
+
     ghost of = { λ n. n };
+
     ghost bits = { λ x. x };
+
     ghost bits_back = { λ n small. refl };
 
     fn be_at(b: &[u8], at: usize) -> u32 {
@@ -80,8 +86,11 @@ impl Number for u32 {
 
 impl Number for u64 {
     ghost width = { 8 };
+
     ghost of = { λ n. n };
+
     ghost bits = { λ x. x };
+
     ghost bits_back = { λ n small. refl };
 
     fn be_at(b: &[u8], at: usize) -> u64 {
@@ -95,8 +104,11 @@ impl Number for u64 {
 
 impl Number for i32 {
     ghost width = { 4 };
+
     ghost of = { signed32 };
+
     ghost bits = { unsigned32 };
+
     ghost bits_back = { signed32_back };
 
     fn be_at(b: &[u8], at: usize) -> i32 {
@@ -110,8 +122,11 @@ impl Number for i32 {
 
 impl Number for i64 {
     ghost width = { 8 };
+
     ghost of = { signed64 };
+
     ghost bits = { unsigned64 };
+
     ghost bits_back = { signed64_back };
 
     fn be_at(b: &[u8], at: usize) -> i64 {
