@@ -1,9 +1,7 @@
 // Reads numbers in slices of bytes. A byte past the end reads as 0.
-ghost use Rattle.std.specs.Prelude.{◌≡◌, ◌+◌, ◌^◌, ◌<◌, ℕ, slice_index, drop, refl};
-ghost use Rattle.codec.specs.Fields.{be, le, signed32, signed64, unsigned32, unsigned64};
+ghost use Rattle.std.specs.Prelude.{◌≡◌, ◌+◌, ◌^◌, ◌<◌, ◌≤◌, ℕ, length, slice_index, drop, refl};
+ghost use Rattle.codec.specs.Fields.{be, le, part, signed32, signed64, unsigned32, unsigned64};
 ghost use Rattle.codec.specs.Signs.{signed32_back, signed64_back};
-
-use std::array;
 
 // A number that stands in bytes.
 pub trait Number: Copy {
@@ -36,8 +34,9 @@ fn bytes_from(b: &[u8], at: usize) -> &[u8]
 }
 
 // The `K` bytes from `at` on.
-fn bytes_at<const K: usize>(b: &[u8], at: usize) -> [u8; K]
-    ensures { (k : ℕ) → k < K → slice_index result k ≡ slice_index b.now (at + k) }
+pub fn bytes_at<const K: usize>(b: &[u8], at: usize) -> [u8; K]
+    ensures each { (k : ℕ) → k < K → slice_index result k ≡ slice_index b.now (at + k) }
+    ensures whole { at + K ≤ length b.now → result ≡ part at K b.now }
 {
     let rest = bytes_from(b, at);
     if let Some((whole, _)) = rest.split_first_chunk() {
