@@ -2,4 +2,3 @@
 pub mod Numbers
 pub mod Puts
 pub mod Allbytes
-pub mod Signs

@@ -40,7 +40,7 @@ fill front (x ∷ xs) (suc m) h =
     ∙ ap (λ b. b ++ zeros (m - length xs)) (append_assoc front one xs) ∙ ap (λ n. (front ++ (x ∷ xs)) ++ zeros n) (sym (suc-sub-suc m (length xs)))
 
 -- past the end nothing is written
-put_past : (b : List ℕ) (at : ℕ) (xs : List ℕ) → length b ≤ at → put b at xs ≡ b
+pub put_past : (b : List ℕ) (at : ℕ) (xs : List ℕ) → length b ≤ at → put b at xs ≡ b
 put_past b at [] h = refl
 put_past b at (x ∷ xs) h = ap (λ v. put v (at + 1) xs) (set_past b at x h) ∙ put_past b (at + 1) xs (omega arith)
 
@@ -75,11 +75,6 @@ put_cut b at xs n h e = same_lists (take at b ++ (take n xs ++ drop n (drop at b
     by : (i d : ℕ) → (i < at) ⊎ (at ≤ i) → get_or (take at b ++ (take n xs ++ drop n (drop at b))) i d ≡ get_or (put b at xs) i d
     by i d (inl l) = get_or_append_left (take at b) (take n xs ++ drop n (drop at b)) d i (omega (arith, front)) ∙ get_or-take at b i d l ∙ sym (put_below b at xs i d l)
     by i d (inr l) = get_or-append_right (take at b) (take n xs ++ drop n (drop at b)) at i d front l ∙ within i d l (cases_lt i (at + n))
-
--- where nothing fits or nothing is put, all stays
-pub put_none : (b : List ℕ) (at : ℕ) (xs : List ℕ) → min (length xs) (length b - at) ≡ 0 → put b at xs ≡ b
-put_none b at [] e = refl
-put_none b at (x ∷ xs) e = put_past b at (x ∷ xs) (omega arith)
 
 -- bytes put where the zeros begin
 pub fill_at : (front xs : List ℕ) (i m r : ℕ) → length front ≡ i → length xs + r ≡ m → put (front ++ zeros m) i xs ≡ (front ++ xs) ++ zeros r

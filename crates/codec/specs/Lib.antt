@@ -1,3 +1,4 @@
 -- What numbers in bytes are, and their laws.
 pub mod Fields
+pub mod Signs
 pub mod Laws

@@ -1,119 +1,138 @@
 // Reads numbers in slices of bytes. A byte past the end reads as 0.
-ghost use Rattle.std.specs.Prelude.{◌≡◌, ◌+◌, ◌-◌, length, slice_index};
-ghost use Rattle.codec.specs.Fields.{be16, be32, be64, le16, le32, le64, signed32, signed64};
+ghost use Rattle.std.specs.Prelude.{◌≡◌, ◌+◌, ◌^◌, ◌<◌, ◌≤◌, ℕ, length, slice_index, drop, refl};
+ghost use Rattle.codec.specs.Fields.{be, le, part, signed32, signed64, unsigned32, unsigned64};
+ghost use Rattle.codec.specs.Signs.{signed32_back, signed64_back};
 
-// How many bytes lie at `at` and behind it.
-fn room(b: &[u8], at: usize) -> usize
-    ensures { result ≡ length b.now - at }
-{
-    b.len().saturating_sub(at)
+// A number that stands in bytes.
+pub trait Number: Copy {
+    // how many bytes it has
+    ghost width: { ℕ };
+
+    // the number that these bits are
+    ghost of: { ℕ → Self };
+
+    // the bits of a number
+    ghost bits: { Self → ℕ };
+
+    // The number at `at`, greatest byte first.
+    fn be_at(b: &[u8], at: usize) -> Self
+        ensures { result ≡ of (be width b.now at) };
+
+    // The number at `at`, least byte first.
+    fn le_at(b: &[u8], at: usize) -> Self
+        ensures { result ≡ of (le width b.now at) };
+
+    // the bits that a number was made of are its bits
+    ghost bits_back: { (n : ℕ) → n < 256 ^ width → bits (of n) ≡ n };
 }
 
-// The byte `k` places after `at`.
-fn byte(b: &[u8], at: usize, k: usize) -> u8
-    ensures { result ≡ slice_index b.now (at + k) }
+// The bytes from `at` on; none where that is past the end.
+fn bytes_from(b: &[u8], at: usize) -> &[u8]
+    ensures { result.now ≡ drop at b.now }
 {
-    if k < room(b, at) { b[at + k] } else { 0 }
+    b.get(at..).unwrap_or(&[])
 }
 
-// The number of 16 bits at `at`, greatest byte first.
-pub fn be16(b: &[u8], at: usize) -> u16
-    ensures { result ≡ be16 b.now at }
+// The `K` bytes from `at` on.
+pub fn bytes_at<const K: usize>(b: &[u8], at: usize) -> [u8; K]
+    ensures each { (k : ℕ) → k < K → slice_index result k ≡ slice_index b.now (at + k) }
+    ensures whole { at + K ≤ length b.now → result ≡ part at K b.now }
 {
-    u16::from_be_bytes([byte(b, at, 0), byte(b, at, 1)])
-}
-
-// The number of 32 bits at `at`, greatest byte first.
-pub fn be32(b: &[u8], at: usize) -> u32
-    ensures { result ≡ be32 b.now at }
-{
-    if room(b, at) >= 4 {
-        return u32::from_be_bytes([b[at], b[at + 1], b[at + 2], b[at + 3]]);
+    let rest = bytes_from(b, at);
+    if let Some((whole, _)) = rest.split_first_chunk() {
+        return *whole;
     }
-    u32::from_be_bytes([
-        byte(b, at, 0),
-        byte(b, at, 1),
-        byte(b, at, 2),
-        byte(b, at, 3),
-    ])
+    let mut bytes = [0; K];
+    bytes[..rest.len()].copy_from_slice(rest);
+    bytes
 }
 
-// The number of 64 bits at `at`, greatest byte first.
-pub fn be64(b: &[u8], at: usize) -> u64
-    ensures { result ≡ be64 b.now at }
-{
-    u64::from_be_bytes([
-        byte(b, at, 0),
-        byte(b, at, 1),
-        byte(b, at, 2),
-        byte(b, at, 3),
-        byte(b, at, 4),
-        byte(b, at, 5),
-        byte(b, at, 6),
-        byte(b, at, 7),
-    ])
-}
+impl Number for u16 {
+    ghost width = { 2 };
 
-// The number of 16 bits at `at`, least byte first.
-pub fn le16(b: &[u8], at: usize) -> u16
-    ensures { result ≡ le16 b.now at }
-{
-    u16::from_le_bytes([byte(b, at, 0), byte(b, at, 1)])
-}
+    ghost of = { λ n. n };
 
-// The number of 32 bits at `at`, least byte first.
-pub fn le32(b: &[u8], at: usize) -> u32
-    ensures { result ≡ le32 b.now at }
-{
-    if room(b, at) >= 4 {
-        return u32::from_le_bytes([b[at], b[at + 1], b[at + 2], b[at + 3]]);
+    ghost bits = { λ x. x };
+
+    ghost bits_back = { λ n small. refl };
+
+    fn be_at(b: &[u8], at: usize) -> u16 {
+        u16::from_be_bytes(bytes_at(b, at))
     }
-    u32::from_le_bytes([
-        byte(b, at, 0),
-        byte(b, at, 1),
-        byte(b, at, 2),
-        byte(b, at, 3),
-    ])
-}
 
-// The number of 64 bits at `at`, least byte first.
-pub fn le64(b: &[u8], at: usize) -> u64
-    ensures { result ≡ le64 b.now at }
-{
-    if room(b, at) >= 8 {
-        return u64::from_le_bytes([
-            b[at],
-            b[at + 1],
-            b[at + 2],
-            b[at + 3],
-            b[at + 4],
-            b[at + 5],
-            b[at + 6],
-            b[at + 7],
-        ]);
+    fn le_at(b: &[u8], at: usize) -> u16 {
+        u16::from_le_bytes(bytes_at(b, at))
     }
-    u64::from_le_bytes([
-        byte(b, at, 0),
-        byte(b, at, 1),
-        byte(b, at, 2),
-        byte(b, at, 3),
-        byte(b, at, 4),
-        byte(b, at, 5),
-        byte(b, at, 6),
-        byte(b, at, 7),
-    ])
 }
 
-// The number of 32 bits at `at` with a sign, least byte first.
-pub fn le_i32(b: &[u8], at: usize) -> i32
-    ensures { result ≡ signed32 (le32 b.now at) }
-{
-    le32(b, at).cast_signed()
+impl Number for u32 {
+    ghost width = { 4 };
+
+    ghost of = { λ n. n };
+
+    ghost bits = { λ x. x };
+
+    ghost bits_back = { λ n small. refl };
+
+    fn be_at(b: &[u8], at: usize) -> u32 {
+        u32::from_be_bytes(bytes_at(b, at))
+    }
+
+    fn le_at(b: &[u8], at: usize) -> u32 {
+        u32::from_le_bytes(bytes_at(b, at))
+    }
 }
 
-// The number of 64 bits at `at` with a sign, least byte first.
-pub fn le_i64(b: &[u8], at: usize) -> i64
-    ensures { result ≡ signed64 (le64 b.now at) }
-{
-    le64(b, at).cast_signed()
+impl Number for u64 {
+    ghost width = { 8 };
+
+    ghost of = { λ n. n };
+
+    ghost bits = { λ x. x };
+
+    ghost bits_back = { λ n small. refl };
+
+    fn be_at(b: &[u8], at: usize) -> u64 {
+        u64::from_be_bytes(bytes_at(b, at))
+    }
+
+    fn le_at(b: &[u8], at: usize) -> u64 {
+        u64::from_le_bytes(bytes_at(b, at))
+    }
+}
+
+impl Number for i32 {
+    ghost width = { 4 };
+
+    ghost of = { signed32 };
+
+    ghost bits = { unsigned32 };
+
+    ghost bits_back = { signed32_back };
+
+    fn be_at(b: &[u8], at: usize) -> i32 {
+        u32::be_at(b, at).cast_signed()
+    }
+
+    fn le_at(b: &[u8], at: usize) -> i32 {
+        u32::le_at(b, at).cast_signed()
+    }
+}
+
+impl Number for i64 {
+    ghost width = { 8 };
+
+    ghost of = { signed64 };
+
+    ghost bits = { unsigned64 };
+
+    ghost bits_back = { signed64_back };
+
+    fn be_at(b: &[u8], at: usize) -> i64 {
+        u64::be_at(b, at).cast_signed()
+    }
+
+    fn le_at(b: &[u8], at: usize) -> i64 {
+        u64::le_at(b, at).cast_signed()
+    }
 }

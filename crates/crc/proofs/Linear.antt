@@ -1,7 +1,10 @@
 -- The step of a bit is linear, so a byte's eight steps are a table's entry and a shift. Assumes nothing.
-use Rattle.std.proofs.Common.{◌≡◌, ℕ, zero, suc, ◌+◌, ◌*◌, ◌/◌, ◌%◌, ◌^◌, ◌<◌, List, [], ◌∷◌, ◌++◌, length, get_or, take, drop, sym, refl, ap, ◌∙◌, suc-add, zero-add, arith, take-append-drop, pow_pos}
-use lib.Bits.{bit_and, and_mask, mask_lt, xor_lt, bit_xor, xor_shr, xor_mod, xor_assoc, xor_comm, xor_zero_r, xor_zero_l, xor_shifted, shifted_half, shifted_even}
+use Rattle.std.proofs.Common.{◌≡◌, ℕ, zero, suc, ◌+◌, ◌*◌, ◌/◌, ◌%◌, ◌^◌, ◌<◌, List, [], ◌∷◌, ◌++◌, length, get_or, take, drop, sym, refl, ap, ◌∙◌, suc-add, suc-mul, add_comm, zero-add, arith, take-append-drop, pow_pos}
+use lib.Bits.{bit_xor, xor_shr, xor_mod, xor_assoc, xor_comm, xor_zero_r, xor_zero_l, xor_shifted, shifted_half, shifted_even}
 use Rattle.std.proofs.lemmas.Nat.{shr_split, mod_below}
+use Rattle.std.proofs.lemmas.List.{drop-drop}
+use Rattle.std.specs.List.{fold}
+use Rattle.std.specs.Simd.{first_chunks}
 use Rattle.crc.specs.Crc.{picked, bit_step, steps, byte_step, crc_of}
 
 -- (a ⊕ b) ⊕ (p ⊕ q) ≡ (a ⊕ p) ⊕ (b ⊕ q)
@@ -45,11 +48,15 @@ steps_split n x =
     ∙ ap (λ y. bit_xor y (steps n (x % 2 ^ n))) (steps_shifted n (x / 2 ^ n))
     ∙ xor_comm (x / 2 ^ n) (steps n (x % 2 ^ n))
 
-pub byte_by_table : (c b : ℕ) → b < 256 → bit_xor (steps 8 (bit_xor c b % 256)) (c / 256) ≡ byte_step c b
-byte_by_table c b h =
-    let z : b / 256 ≡ 0 = omega arith in
-    let d : bit_xor c b / 256 ≡ c / 256 = xor_shr c b 8 ∙ ap (bit_xor (c / 256)) z ∙ xor_zero_r (c / 256) in
-    sym (steps_split 8 (bit_xor c b) ∙ ap (bit_xor (steps 8 (bit_xor c b % 256))) d)
+-- a byte changes the lowest eight bits alone
+xor_low : (c b : ℕ) → b < 256 → bit_xor c b % 256 ≡ bit_xor (c % 256) b
+xor_low c b h = let w : b % 256 ≡ b = omega arith in xor_mod c b 8 ∙ ap (bit_xor (c % 256)) w
+
+xor_high : (c b : ℕ) → b < 256 → bit_xor c b / 256 ≡ c / 256
+xor_high c b h = let z : b / 256 ≡ 0 = omega arith in xor_shr c b 8 ∙ ap (bit_xor (c / 256)) z ∙ xor_zero_r (c / 256)
+
+pub byte_by_table : (c b : ℕ) → b < 256 → bit_xor (steps 8 (bit_xor (c % 256) b)) (c / 256) ≡ byte_step c b
+byte_by_table c b h = sym (steps_split 8 (bit_xor c b) ∙ ap (λ x. bit_xor (steps 8 x) (bit_xor c b / 256)) (xor_low c b h) ∙ ap (bit_xor (steps 8 (bit_xor (c % 256) b))) (xor_high c b h))
 
 -- n + m steps
 pub steps_add : (n m c : ℕ) → steps (n + m) c ≡ steps m (steps n c)
@@ -69,12 +76,7 @@ carried x y (b ∷ bs) =
 pub peel : (c b : ℕ) (bs : List ℕ) → b < 256 → crc_of c (b ∷ bs) ≡ bit_xor (steps (8 * suc (length bs)) (bit_xor (c % 256) b)) (crc_of (c / 256) bs)
 peel c b bs h =
     let e : 8 * suc (length bs) ≡ 8 + 8 * length bs = omega arith in
-    let z : b / 256 ≡ 0 = omega arith in
-    let w : b % 256 ≡ b = omega arith in
-    let d : bit_xor c b / 256 ≡ c / 256 = xor_shr c b 8 ∙ ap (bit_xor (c / 256)) z ∙ xor_zero_r (c / 256) in
-    let m : bit_xor c b % 256 ≡ bit_xor (c % 256) b = xor_mod c b 8 ∙ ap (bit_xor (c % 256)) w in
-    let s : steps 8 (bit_xor c b) ≡ bit_xor (steps 8 (bit_xor (c % 256) b)) (c / 256) = steps_split 8 (bit_xor c b) ∙ ap (λ x. bit_xor (steps 8 x) (bit_xor c b / 256)) m ∙ ap (bit_xor (steps 8 (bit_xor (c % 256) b))) d in
-    ap (λ x. crc_of x bs) s ∙ carried (steps 8 (bit_xor (c % 256) b)) (c / 256) bs
+    ap (λ x. crc_of x bs) (sym (byte_by_table c b h)) ∙ carried (steps 8 (bit_xor (c % 256) b)) (c / 256) bs
     ∙ ap (λ x. bit_xor x (crc_of (c / 256) bs)) (sym (ap (λ n. steps n (bit_xor (c % 256) b)) e ∙ steps_add 8 (8 * length bs) (bit_xor (c % 256) b)))
 
 -- a byte where the state is used up
@@ -93,16 +95,10 @@ word_is c b0 b1 b2 b3 b4 b5 b6 b7 h h0 h1 h2 h3 h4 h5 h6 h7 =
     (ap (λ x. crc_of x (b4 ∷ b5 ∷ b6 ∷ b7 ∷ [])) z
     ∙ spent b4 (b5 ∷ b6 ∷ b7 ∷ []) h4 ∙ ap (bit_xor (steps 32 b4)) (spent b5 (b6 ∷ b7 ∷ []) h5 ∙ ap (bit_xor (steps 24 b5)) (spent b6 (b7 ∷ []) h6 ∙ ap (bit_xor (steps 16 b6)) (spent b7 [] h7 ∙ xor_zero_r (steps 8 b7))))))))
 
--- the index of a table
-pub index_is : (x b : ℕ) → bit_xor (bit_and x 255) b ≡ bit_xor (x % 256) b
-index_is x b = ap (λ y. bit_xor y b) (and_mask x 8)
-
-pub index_lt : (x b : ℕ) → b < 256 → bit_xor (bit_and x 255) b < 256
-index_lt x b h = xor_lt 8 (bit_and x 255) b (mask_lt x 8) h
-
+-- what eight tables give, added up: four by the state and the first four bytes, and four by the others
 pub xor8 : {a0 a1 a2 a3 a4 a5 a6 a7 s0 s1 s2 s3 s4 s5 s6 s7 : ℕ} → a0 ≡ s0 → a1 ≡ s1 → a2 ≡ s2 → a3 ≡ s3 → a4 ≡ s4 → a5 ≡ s5 → a6 ≡ s6 → a7 ≡ s7
-    → bit_xor a0 (bit_xor a1 (bit_xor a2 (bit_xor a3 (bit_xor a4 (bit_xor a5 (bit_xor a6 a7)))))) ≡ bit_xor s0 (bit_xor s1 (bit_xor s2 (bit_xor s3 (bit_xor s4 (bit_xor s5 (bit_xor s6 s7))))))
-xor8 e0 e1 e2 e3 e4 e5 e6 e7 = rw (e0, e1, e2, e3, e4, e5, e6, e7)
+    → bit_xor (bit_xor (bit_xor (bit_xor a0 a1) a2) a3) (bit_xor (bit_xor (bit_xor a4 a5) a6) a7) ≡ bit_xor s0 (bit_xor s1 (bit_xor s2 (bit_xor s3 (bit_xor s4 (bit_xor s5 (bit_xor s6 s7))))))
+xor8 e0 e1 e2 e3 e4 e5 e6 e7 = rw (e0, e1, e2, e3, e4, e5, e6, e7) (simp xor_assoc)
 
 -- bytes one after the other, cut in two
 pub crc_append : (c : ℕ) (a b : List ℕ) → crc_of c (a ++ b) ≡ crc_of (crc_of c a) b
@@ -111,6 +107,19 @@ crc_append c (x ∷ a) b = crc_append (byte_step c x) a b
 
 pub crc_cut : (c n : ℕ) (b : List ℕ) → crc_of (crc_of c (take n b)) (drop n b) ≡ crc_of c b
 crc_cut c n b = sym (crc_append c (take n b) (drop n b)) ∙ ap (crc_of c) (take-append-drop n b)
+
+-- bytes one at a time, and runs of n bytes at a time, then what is left
+pub crc_bytes : (c : ℕ) (b : List ℕ) → fold byte_step c b ≡ crc_of c b
+crc_bytes c [] = refl
+crc_bytes c (x ∷ b) = crc_bytes (byte_step c x) b
+
+pub crc_runs : (n k c : ℕ) (b : List ℕ) → crc_of (fold crc_of c (first_chunks n k b)) (drop (k * n) b) ≡ crc_of c b
+crc_runs n zero c b = let e : 0 * n ≡ 0 = omega arith in ap (λ i. crc_of c (drop i b)) e
+crc_runs n (suc k) c b =
+    let e : suc k * n ≡ n + k * n = suc-mul k n ∙ add_comm (k * n) n in
+    let s = crc_of c (take n b) in
+    ap (λ i. crc_of (fold crc_of s (first_chunks n k (drop n b))) (drop i b)) e
+    ∙ ap (crc_of (fold crc_of s (first_chunks n k (drop n b)))) (sym (drop-drop (k * n) n b)) ∙ crc_runs n k s (drop n b) ∙ crc_cut c n b
 
 -- a list, element by element
 abbrev pub listed : ℕ → (ℕ → ℕ) → List ℕ

@@ -2,9 +2,9 @@
 ghost use Rattle.std.specs.Prelude.{◌≡◌, bit_xor};
 ghost use Rattle.crc.specs.Crc.{crc_of};
 
-use crate::sum::update;
+use crate::sum::{ONES, update};
 
-#[derive(Clone, Copy)]
+#[derive(Clone, Copy, PartialEq, Eq, Debug)]
 pub struct Crc32c {
     pub state: u32,
 }
@@ -13,7 +13,7 @@ impl Crc32c {
     pub fn new() -> Self
         ensures { result.state ≡ 0xFFFFFFFF }
     {
-        Crc32c { state: 0xffff_ffff }
+        Crc32c { state: ONES }
     }
 
     // Takes the next bytes.
@@ -27,6 +27,14 @@ impl Crc32c {
     pub fn finish(&self) -> u32
         ensures { result ≡ bit_xor self.now.state 0xFFFFFFFF }
     {
-        self.state ^ 0xffff_ffff
+        self.state ^ ONES
+    }
+}
+
+impl Default for Crc32c {
+    ghost is_default = { λ sum. sum.state ≡ 0xFFFFFFFF };
+
+    fn default() -> Self {
+        Crc32c::new()
     }
 }

@@ -4,62 +4,38 @@ ghost use Rattle.crc.specs.Crc.{byte_step, crc_of, crc32c};
 
 use crate::table::entry;
 
+// The state before any byte, and what is added to the last one.
+pub(crate) const ONES: u32 = 0xffff_ffff;
+
+// One byte, by the table of its own eight steps.
 fn step(c: u32, b: u8) -> u32
     ensures { result ≡ byte_step c b }
 {
-    entry(0, ((c ^ b as u32) & 0xff) as usize) ^ (c >> 8)
+    let [low, _, _, _] = c.to_le_bytes();
+    entry(0, low ^ b) ^ (c >> 8)
 }
 
 // Eight bytes, each by the table of the steps that are still to come.
 fn word(c: u32, b: &[u8; 8]) -> u32
     ensures { result ≡ crc_of c b.now }
 {
-    let c1 = c >> 8;
-    let c2 = c1 >> 8;
-    let c3 = c2 >> 8;
-    let high = entry(3, b[4] as usize)
-        ^ (entry(2, b[5] as usize) ^ (entry(1, b[6] as usize) ^ entry(0, b[7] as usize)));
-    entry(7, (c & 0xff) as usize ^ b[0] as usize)
-        ^ (entry(6, (c1 & 0xff) as usize ^ b[1] as usize)
-            ^ (entry(5, (c2 & 0xff) as usize ^ b[2] as usize)
-                ^ (entry(4, (c3 & 0xff) as usize ^ b[3] as usize) ^ high)))
+    let [c0, c1, c2, c3] = c.to_le_bytes();
+    let last = entry(3, b[4]) ^ entry(2, b[5]) ^ entry(1, b[6]) ^ entry(0, b[7]);
+    entry(7, c0 ^ b[0]) ^ entry(6, c1 ^ b[1]) ^ entry(5, c2 ^ b[2]) ^ entry(4, c3 ^ b[3]) ^ last
 }
 
-// Takes eight bytes at a time, and hands out what is left.
-fn words(crc: u32, bytes: &[u8]) -> (u32, &[u8])
-    ensures { crc_of result.0 result.1.now ≡ crc_of crc bytes.now }
-{
-    let mut c = crc;
-    let mut left = bytes;
-    while let Some((eight, rest)) = left.split_first_chunk::<8>() {
-        c = word(c, eight);
-        left = rest;
-    }
-    (c, left)
-}
-
-// Takes a byte at a time.
-fn tail(crc: u32, bytes: &[u8]) -> u32
-    ensures { result ≡ crc_of crc bytes.now }
-{
-    let mut c = crc;
-    for b in bytes {
-        c = step(c, *b);
-    }
-    c
-}
-
-// The state `crc` after `bytes`.
+// The state `crc` after `bytes`: eight bytes at a time, then those that are left.
 pub fn update(crc: u32, bytes: &[u8]) -> u32
     ensures { result ≡ crc_of crc bytes.now }
 {
-    let (c, left) = words(crc, bytes);
-    tail(c, left)
+    let (words, rest) = bytes.as_chunks();
+    let state = words.iter().fold(crc, |c, eight| word(c, eight));
+    rest.iter().fold(state, |c, byte| step(c, *byte))
 }
 
 // The checksum of `bytes`.
 pub fn crc32c(bytes: &[u8]) -> u32
     ensures { result ≡ crc32c bytes.now }
 {
-    update(0xffff_ffff, bytes) ^ 0xffff_ffff
+    update(ONES, bytes) ^ ONES
 }

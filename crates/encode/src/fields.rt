@@ -1,90 +1,76 @@
 // Writes numbers and bytes in slices of bytes. What would fall past the end is not written.
-ghost use Rattle.std.specs.Prelude.{length, ◌≡◌, ◌-◌, min};
-ghost use Rattle.codec.specs.Fields.{be16_bytes, be32_bytes, be64_bytes, le16_bytes, le32_bytes, le64_bytes, put, unsigned32, unsigned64};
+ghost use Rattle.std.specs.Prelude.{◌≡◌};
+ghost use Rattle.codec.specs.Fields.{be_bytes, le_bytes, put};
 
-// How many bytes lie at `at` and behind it.
-fn room(b: &[u8], at: usize) -> usize
-    ensures { result ≡ length b.now - at }
-{
-    b.len().saturating_sub(at)
-}
-
-// Copies the first `n` bytes, as many as fit.
-fn copy(b: &mut [u8], at: usize, bytes: &[u8], n: usize)
-    requires { n ≡ min (length bytes.now) (length b.old - at) }
-    ensures { b.new ≡ put b.old at bytes.now }
-{
-    if n > 0 {
-        b[at..at + n].copy_from_slice(&bytes[0..n]);
-    }
-}
+use codec::fields::Number;
 
 // Puts bytes at `at`.
 pub fn put_bytes(b: &mut [u8], at: usize, bytes: &[u8])
     ensures { b.new ≡ put b.old at bytes.now }
 {
-    let n = bytes.len().min(room(b, at));
-    copy(b, at, bytes, n);
+    if at < b.len() {
+        let n = bytes.len().min(b.len() - at);
+        b[at..at + n].copy_from_slice(&bytes[..n]);
+    }
 }
 
-// Puts a number of 16 bits at `at`, greatest byte first.
-pub fn put_be16(b: &mut [u8], at: usize, x: u16)
-    ensures { b.new ≡ put b.old at (be16_bytes x) }
-{
-    let pair = x.to_be_bytes();
-    put_bytes(b, at, &pair);
+// A number that can be put into bytes.
+pub trait PutNumber: Number {
+    // Puts it at `at`, greatest byte first.
+    fn put_be(self, b: &mut [u8], at: usize)
+        ensures { b.new ≡ put b.old at (be_bytes Self.width (Self.bits self)) };
+
+    // Puts it at `at`, least byte first.
+    fn put_le(self, b: &mut [u8], at: usize)
+        ensures { b.new ≡ put b.old at (le_bytes Self.width (Self.bits self)) };
 }
 
-// Puts a number of 32 bits at `at`, greatest byte first.
-pub fn put_be32(b: &mut [u8], at: usize, x: u32)
-    ensures { b.new ≡ put b.old at (be32_bytes x) }
-{
-    let four = x.to_be_bytes();
-    put_bytes(b, at, &four);
+impl PutNumber for u16 {
+    fn put_be(self, b: &mut [u8], at: usize) {
+        put_bytes(b, at, &u16::to_be_bytes(self));
+    }
+
+    fn put_le(self, b: &mut [u8], at: usize) {
+        put_bytes(b, at, &u16::to_le_bytes(self));
+    }
 }
 
-// Puts a number of 64 bits at `at`, greatest byte first.
-pub fn put_be64(b: &mut [u8], at: usize, x: u64)
-    ensures { b.new ≡ put b.old at (be64_bytes x) }
-{
-    let octet = x.to_be_bytes();
-    put_bytes(b, at, &octet);
+impl PutNumber for u32 {
+    fn put_be(self, b: &mut [u8], at: usize) {
+        put_bytes(b, at, &u32::to_be_bytes(self));
+    }
+
+    fn put_le(self, b: &mut [u8], at: usize) {
+        put_bytes(b, at, &u32::to_le_bytes(self));
+    }
 }
 
-// Puts a number of 16 bits at `at`, least byte first.
-pub fn put_le16(b: &mut [u8], at: usize, x: u16)
-    ensures { b.new ≡ put b.old at (le16_bytes x) }
-{
-    let two = x.to_le_bytes();
-    put_bytes(b, at, &two);
+impl PutNumber for u64 {
+    fn put_be(self, b: &mut [u8], at: usize) {
+        put_bytes(b, at, &u64::to_be_bytes(self));
+    }
+
+    fn put_le(self, b: &mut [u8], at: usize) {
+        put_bytes(b, at, &u64::to_le_bytes(self));
+    }
 }
 
-// Puts a number of 32 bits at `at`, least byte first.
-pub fn put_le32(b: &mut [u8], at: usize, x: u32)
-    ensures { b.new ≡ put b.old at (le32_bytes x) }
-{
-    let four = x.to_le_bytes();
-    put_bytes(b, at, &four);
+impl PutNumber for i32 {
+    fn put_be(self, b: &mut [u8], at: usize) {
+        u32::put_be(self.cast_unsigned(), b, at);
+    }
+
+    fn put_le(self, b: &mut [u8], at: usize) {
+        u32::put_le(self.cast_unsigned(), b, at);
+    }
 }
 
-// Puts a number of 64 bits at `at`, least byte first.
-pub fn put_le64(b: &mut [u8], at: usize, x: u64)
-    ensures { b.new ≡ put b.old at (le64_bytes x) }
-{
-    let eight = x.to_le_bytes();
-    put_bytes(b, at, &eight);
-}
+impl PutNumber for i64 {
+    fn put_be(self, b: &mut [u8], at: usize) {
+        u64::put_be(self.cast_unsigned(), b, at);
+    }
 
-// Puts a number of 32 bits with a sign at `at`, least byte first.
-pub fn put_le_i32(b: &mut [u8], at: usize, x: i32)
-    ensures { b.new ≡ put b.old at (le32_bytes (unsigned32 x)) }
-{
-    put_le32(b, at, x.cast_unsigned());
-}
-
-// Puts a number of 64 bits with a sign at `at`, least byte first.
-pub fn put_le_i64(b: &mut [u8], at: usize, x: i64)
-    ensures { b.new ≡ put b.old at (le64_bytes (unsigned64 x)) }
-{
-    put_le64(b, at, x.cast_unsigned());
+    fn put_le(self, b: &mut [u8], at: usize) {
+        u64::put_le(self.cast_unsigned(), b, at);
+    }
 }

@@ -2,8 +2,8 @@
 ghost use Rattle.std.specs.Prelude.{◌≡◌};
 ghost use Rattle.codec.specs.Laws.{CodecLaws};
 
-use crate::fields::put_be32;
-use codec::fields::be32;
+use crate::fields::PutNumber;
+use codec::fields::Number;
 
 fn hold()
     ensures { CodecLaws }
@@ -16,6 +16,6 @@ pub fn codec_laws(x: u32) -> u32
 {
     hold();
     let mut word = [0; 4];
-    put_be32(&mut word, 0, x);
-    be32(&word, 0)
+    x.put_be(&mut word, 0);
+    u32::be_at(&word, 0)
 }

@@ -2,7 +2,7 @@
 
 // The log is `count` sectors from `start` on. At most `window` sectors are in flight, and a record has at most `most` bytes of
 // data. Any numbers; see `Geometry` for a label whose numbers keep their limits.
-#[derive(Clone, Copy)]
+#[derive(Clone, Copy, PartialEq, Eq, Debug)]
 pub struct Label {
     pub start: u32,
     pub count: u32,

@@ -12,10 +12,10 @@ pub fn geometry_of(label: Label, size: u64) -> Option<Geometry>
     if label.start < 1 || size < label.start as u64 + label.count as u64 {
         return None;
     }
-    if label.count < 16 || 2_097_152 < label.count {
+    if !(16..=2_097_152).contains(&label.count) {
         return None;
     }
-    if label.most % 512 != 0 || label.most < 512 || 32_768 < label.most {
+    if label.most % 512 != 0 || !(512..=32_768).contains(&label.most) {
         return None;
     }
     if label.window < 1 + label.most / 512 || (label.count as u64) < 2 * label.window as u64 {

@@ -16,9 +16,6 @@ pub fn split(geometry: Geometry, position: u64) -> Option<(u32, u32)>
     ensures { result ≡ split_of geometry.label position }
 {
     let count = geometry.label.count as u64;
-    let cycle = position / count;
-    if cycle > 0xFFFF_FFFF {
-        return None;
-    }
-    Some((cycle as u32, (position % count) as u32))
+    let cycle = u32::try_from(position / count).ok()?;
+    Some((cycle, (position % count) as u32))
 }

@@ -3,9 +3,15 @@
 // The first word of every header.
 pub const MAGIC: u32 = 0xFEED_BABE;
 
+// The version of every header.
+pub const VERSION: u32 = 2;
+
+// The format of the log operations of every record.
+pub const FORMAT: u32 = 1;
+
 // The fields of a record header but for its magic number, its saved words and the zeros at its end. A pair is a position as
 // (cycle, log sector).
-#[derive(Clone, Copy)]
+#[derive(Clone, Copy, PartialEq, Eq, Debug)]
 pub struct RecordHeader {
     pub cycle: u32,
     pub version: u32,

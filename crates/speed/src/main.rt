@@ -12,20 +12,12 @@ const PIECES: u64 = 8192;
 
 // Byte `i` of the piece is `i` modulo 251.
 fn piece(heap: Global) -> Result<Vec<u8>, AllocError> {
-    let mut bytes = Vec::new(heap);
-    for i in 0..PIECE {
-        bytes.push((i % 251) as u8)?;
-    }
-    Ok(bytes)
+    (0..PIECE).map(|i| (i % 251) as u8).collect(heap)
 }
 
 // The state after the piece, `PIECES` times over.
 fn over_and_over(bytes: &[u8]) -> u32 {
-    let mut state = 0xffff_ffff;
-    for _ in 0..PIECES {
-        state = update(state, bytes);
-    }
-    state
+    (0..PIECES).fold(0xffff_ffff, |state, _| update(state, bytes))
 }
 
 // Times the checksum over all pieces.

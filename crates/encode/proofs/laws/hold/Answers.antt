@@ -2,7 +2,7 @@
 use mathlib.Core.List.{[]}
 use Rattle.codec.proofs.Numbers.{length_be_bytes, length_le_bytes, be_within, le_within, be_put, le_put}
 use Rattle.codec.proofs.Puts.{length_put, put_below, put_above}
-use Rattle.codec.proofs.Signs.{signed32_back, signed64_back}
+use Rattle.codec.specs.Signs.{signed32_back, signed64_back}
 use Rattle.encode.proofs.laws.hold.Goals as goal
 
 pub returns : goal.returns
