@@ -5,16 +5,11 @@ ghost use Rattle.crc.specs.Laws.{CrcLaws};
 
 use crate::running::Crc32c;
 
-fn hold()
-    ensures { CrcLaws }
-{}
-
 // The checksum of two slices, the one behind the other.
 pub fn crc_laws(a: &[u8], b: &[u8]) -> u32
     ensures laws { CrcLaws }
     ensures joined { result ≡ crc32c (a.now ++ b.now) }
 {
-    hold();
     let mut sum = Crc32c::new();
     sum.update(a);
     sum.update(b);
