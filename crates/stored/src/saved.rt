@@ -4,7 +4,8 @@ ghost use Rattle.codec.specs.Fields.{zeros};
 ghost use Rattle.label.specs.Position.{position};
 ghost use Rattle.record.specs.Record.{whole_sectors, with_words, saved_words, cycle_words, stored, restored};
 
-use encode::fields::{put_be32, put_bytes};
+use codec::fields::bytes_at;
+use encode::fields::{PutNumber, put_bytes};
 use label::geometry::Geometry;
 use label::position::join;
 
@@ -46,7 +47,7 @@ fn cycle_words(geometry: Geometry, place: (u32, u32), sectors: usize) -> [u8; 25
     let first = join(geometry, place) + 1;
     for k in 0..sectors {
         let cycle = (first + k as u64) / geometry.label.count as u64;
-        put_be32(&mut words, 4 * k, (cycle & 0xFFFF_FFFF) as u32);
+        ((cycle & 0xFFFF_FFFF) as u32).put_be(&mut words, 4 * k);
     }
     words
 }
@@ -73,7 +74,5 @@ pub fn pack(geometry: Geometry, place: (u32, u32), bytes: &mut [u8]) -> [u8; 256
 pub fn unpack(header: &[u8; 512], bytes: &mut [u8])
     ensures { bytes.new ≡ restored (whole_sectors bytes.old) header.now bytes.old }
 {
-    let mut words = [0u8; 256];
-    words.copy_from_slice(&header[44..300]);
-    with_words(bytes, &words);
+    with_words(bytes, &bytes_at(header, 44));
 }

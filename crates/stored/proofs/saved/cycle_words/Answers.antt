@@ -21,7 +21,7 @@ loop-k-preserved c =
     let l : k + 1 ≤ 64 = omega (arith, c.requires) in
     let e : be32_bytes (bit_and y 4294967295) ≡ be32_bytes y = ap be32_bytes (and_mask y 32) ∙ low_bytes y in
     let w = c.loop-k.words in
-    let p : c.put_be32.new.b ≡ put w (4 * k) (be32_bytes y) = c.put_be32.ensures ∙ ap (put w (4 * k)) e in (
+    let p : c.put_be.new.b ≡ put w (4 * k) (be32_bytes y) = c.put_be.ensures ∙ ap (put w (4 * k)) e in (
       ap length p ∙ length_put w (4 * k) (be32_bytes y) ∙ c.loop-k.invariant.0,
       p ∙ ap (λ b. put b (4 * k) (be32_bytes y)) c.loop-k.invariant.1 ∙ cycle_more L x k l,
     )
