@@ -5,8 +5,9 @@ mod reading;
 mod telling;
 
 use crate::reading::tell_log;
-use crate::telling::{tell_label, tell_refusal};
+use crate::telling::tell_label;
 use device::interface::Device;
+use faults::refusal::Refusal;
 use journal::labels::label_volume;
 use label::label::Label;
 use memory::cell::blank_cells;
@@ -43,7 +44,7 @@ fn tell_labelling(rt: &HostRuntime, volume: &mut Memory, label: Label) -> io::Re
     match label_volume(volume, label) {
         Ok(()) => tell_labelled(rt, volume, actions),
         Err(fault) => {
-            tell_refusal(rt, fault.refusal())?;
+            println!(rt; "  refused {}", Refusal::from(fault))?;
             tell_spent(rt, volume, actions)
         }
     }

@@ -15,9 +15,9 @@ use stored::sum::checksum;
 // Reads the label, the log and its first record.
 pub fn tell_log(rt: &HostRuntime, volume: &Memory) -> io::Result<()> {
     let mut sector = [0u8; 512];
-    if volume.read(0, &mut sector).is_err() {
+    let Ok(()) = volume.read(0, &mut sector) else {
         return rt.println("sector 0 cannot be read");
-    }
+    };
     let label = label_of(&sector);
     tell_label(rt, "its label, read back", &label)?;
     match geometry_of(label, volume.size()) {
@@ -48,12 +48,10 @@ fn tell_sector(
 ) -> io::Result<()> {
     let at = geometry.label.start as u64 + index as u64;
     let mut sector = [0u8; 512];
-    if volume.read(at, &mut sector).is_err() {
-        println!(rt; "  volume sector {at} cannot be read")
-    } else if held_cycle(&sector) == 0 {
-        Ok(())
-    } else {
-        tell_held(rt, geometry, index, &sector)
+    match volume.read(at, &mut sector) {
+        Err(_) => println!(rt; "  volume sector {at} cannot be read"),
+        Ok(()) if held_cycle(&sector) == 0 => Ok(()),
+        Ok(()) => tell_held(rt, geometry, index, &sector),
     }
 }
 
@@ -78,9 +76,12 @@ fn tell_record(rt: &HostRuntime, volume: &Memory, geometry: Geometry) -> io::Res
     let start = geometry.label.start as u64;
     let mut first = [0u8; 512];
     let mut stored = [0u8; 512];
-    if volume.read(start, &mut first).is_err() || volume.read(start + 1, &mut stored).is_err() {
+    let (Ok(()), Ok(())) = (
+        volume.read(start, &mut first),
+        volume.read(start + 1, &mut stored),
+    ) else {
         return rt.println("  its record cannot be read");
-    }
+    };
     let header = header_of(&first);
     tell_header(rt, geometry, &header)?;
     tell_verdict(rt, geometry, &header, checksum(&first, &stored))?;

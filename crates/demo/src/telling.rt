@@ -1,5 +1,4 @@
-// Labels, refusals and bytes in print.
-use faults::refusal::{Layer, Refusal};
+// Labels and bytes in print.
 use label::label::Label;
 use std::io;
 
@@ -19,25 +18,4 @@ pub fn tell_label(rt: &HostRuntime, title: &str, label: &Label) -> io::Result<()
         label.start, label.count, label.window, label.most
     )?;
     tell_bytes(rt, "  uuid", &label.uuid)
-}
-
-// Number, place and layer of a refusal.
-pub fn tell_refusal(rt: &HostRuntime, refusal: Refusal) -> io::Result<()> {
-    println!(rt;
-        "  refused {} {} {} by the {}",
-        refusal.number,
-        refusal.sector,
-        refusal.byte,
-        layer_name(refusal.layer)
-    )
-}
-
-fn layer_name(layer: Layer) -> &'static str {
-    match layer {
-        Layer::Device => "device",
-        Layer::Record => "record",
-        Layer::Transaction => "transaction",
-        Layer::Item => "item",
-        Layer::Session => "session",
-    }
 }

@@ -1,11 +1,13 @@
 -- What the call label leaves, from what its actions left. Assumes nothing.
-use Rattle.std.proofs.Common.{◌≡◌, ◌+◌, true, length, Ok, Err, sym, refl, ap, ◌∙◌}
+use Rattle.std.proofs.Common.{◌≡◌, ℕ, ◌+◌, true, false, length, Option, Some, None, MatchOption, ok_or, Ok, Err, sym, refl, ap, ◌∙◌, arith}
 use Rattle.std.proofs.lemmas.Bool.{and_parts, leb-true}
 use Rattle.device.specs.State.{DevState}
 use Rattle.device.specs.Steps.{Answer}
 use Rattle.device.specs.Actions.{Ran, run}
 use Rattle.label.specs.declared.label.Label.{Label}
+use Rattle.label.specs.declared.geometry.Geometry.{Geometry}
 use Rattle.label.specs.Label.{limits}
+use Rattle.faults.specs.declared.cause.Fault.{Fault}
 use Rattle.model.specs.Refusals.{refusal, by_session, device_refusal, Outcome, ◌>>=◌, need}
 use Rattle.model.specs.Calls.{label_actions, label_call, acted, finished, Plan, Left}
 use Rattle.journal.specs.Laws.{Labelled}
@@ -44,3 +46,9 @@ made_from s e L K lim k n h =
     let q = and_parts _ _ p.1 in
     let r = and_parts _ _ q.1 in
     made_by L s e (leb-true 1 L.start p.0) (leb-true 16 L.count r.0) (leb-true (L.start + L.count) s.size q.0) n (ap (λ x. run (label_actions x) s) (sym k) ∙ h)
+
+-- the geometry that `ok_or` hands on is that of a label within its limits on a device of this size
+pub within : (o : Option Geometry) (G : Geometry) (f : Fault) (L : Label) (n size : ℕ) → n ≡ size → MatchOption o (limits L n ≡ false) (λ k. (limits L n ≡ true) × (k.label ≡ L))
+    → ok_or o f ≡ Ok G → (limits L size ≡ true) × (G.label ≡ L)
+within (Some k) G f L n size same h e = let q : k.label ≡ G.label = cc in (ap (limits L) (sym same) ∙ h.0, sym q ∙ h.1)
+within None G f L n size same h e = let z : ◌≡◌ {A = ℕ} 0 1 = cc in let y : ⊥ = omega arith in absurd y
