@@ -2,11 +2,11 @@
 ghost use Rattle.std.specs.Prelude.{◌≡◌, is_some};
 ghost use Rattle.item.specs.Meaning.{Bank, WholeBank};
 ghost use Rattle.item.specs.Covers.{covers_sector, laid};
-ghost use Rattle.item.specs.Regions.{regions};
+ghost use Rattle.item.specs.Items.{regions_of};
 ghost use Rattle.bank.specs.Banks.{early_by, class_by, meant_by};
 
 use item::class::Class;
-use item::place::Place;
+use item::item::Item;
 
 // A bank has one kind or none for a type number. Its calls are those of the kind, with the number in front.
 pub trait ItemBank {
@@ -24,14 +24,14 @@ pub trait ItemBank {
         ensures { result ≡ early_by (kinds number) };
 
     // What an item asks; nothing where it has no kind.
-    fn classify(&self, number: u16, bytes: &[u8], places: &[Place]) -> Option<Class>
-        ensures { result ≡ class_by (kinds number) (regions bytes.now places.now) };
+    fn classify(&self, number: u16, item: Item<'_>) -> Option<Class>
+        ensures { result ≡ class_by (kinds number) (regions_of item.entry) };
 
     // Whether an item gives sector j of its range a byte.
-    fn covers(&self, number: u16, bytes: &[u8], places: &[Place], j: usize) -> bool
-        ensures { result ≡ covers_sector (meant_by (kinds number) (regions bytes.now places.now)) j };
+    fn covers(&self, number: u16, item: Item<'_>, j: usize) -> bool
+        ensures { result ≡ covers_sector (meant_by (kinds number) (regions_of item.entry)) j };
 
     // Lays an item over sector j of its range.
-    fn lay(&self, number: u16, bytes: &[u8], places: &[Place], j: usize, sector: &mut [u8; 512])
-        ensures { sector.new ≡ laid (meant_by (kinds number) (regions bytes.now places.now)) j sector.old };
+    fn lay(&self, number: u16, item: Item<'_>, j: usize, sector: &mut [u8; 512])
+        ensures { sector.new ≡ laid (meant_by (kinds number) (regions_of item.entry)) j sector.old };
 }

@@ -4,8 +4,8 @@ ghost use Rattle.bank.specs.Whole.{one_whole};
 
 use crate::bank::ItemBank;
 use item::class::Class;
+use item::item::Item;
 use item::kind::ItemKind;
-use item::place::Place;
 
 // A kind, under its type numbers.
 #[derive(Drop)]
@@ -23,28 +23,25 @@ impl<K: ItemKind> ItemBank for One<K> {
     }
 
     fn is_early(&self, number: u16) -> Option<bool> {
+        self.kind.has(number).then(|| self.kind.is_early())
+    }
+
+    fn classify(&self, number: u16, item: Item<'_>) -> Option<Class> {
+        // Kept: with `then` it stays open what a closure that captures `item` gives; tried bare, with `move`, and with an answer by cases.
         if self.kind.has(number) {
-            Some(self.kind.is_early())
+            Some(self.kind.classify(item))
         } else {
             None
         }
     }
 
-    fn classify(&self, number: u16, bytes: &[u8], places: &[Place]) -> Option<Class> {
-        if self.kind.has(number) {
-            Some(self.kind.classify(bytes, places))
-        } else {
-            None
-        }
+    fn covers(&self, number: u16, item: Item<'_>, j: usize) -> bool {
+        self.kind.has(number) && self.kind.covers(item, j)
     }
 
-    fn covers(&self, number: u16, bytes: &[u8], places: &[Place], j: usize) -> bool {
-        self.kind.has(number) && self.kind.covers(bytes, places, j)
-    }
-
-    fn lay(&self, number: u16, bytes: &[u8], places: &[Place], j: usize, sector: &mut [u8; 512]) {
+    fn lay(&self, number: u16, item: Item<'_>, j: usize, sector: &mut [u8; 512]) {
         if self.kind.has(number) {
-            self.kind.lay(bytes, places, j, sector);
+            self.kind.lay(item, j, sector);
         }
     }
 }

@@ -4,7 +4,7 @@ ghost use Rattle.bank.specs.Whole.{first_whole};
 
 use crate::bank::ItemBank;
 use item::class::Class;
-use item::place::Place;
+use item::item::Item;
 
 // The kinds of two banks; where both have a kind for a number, it is that of the first.
 #[derive(Drop)]
@@ -30,27 +30,27 @@ impl<A: ItemBank, B: ItemBank> ItemBank for Pair<A, B> {
         }
     }
 
-    fn classify(&self, number: u16, bytes: &[u8], places: &[Place]) -> Option<Class> {
+    fn classify(&self, number: u16, item: Item<'_>) -> Option<Class> {
         if self.first.has(number) {
-            self.first.classify(number, bytes, places)
+            self.first.classify(number, item)
         } else {
-            self.second.classify(number, bytes, places)
+            self.second.classify(number, item)
         }
     }
 
-    fn covers(&self, number: u16, bytes: &[u8], places: &[Place], j: usize) -> bool {
+    fn covers(&self, number: u16, item: Item<'_>, j: usize) -> bool {
         if self.first.has(number) {
-            self.first.covers(number, bytes, places, j)
+            self.first.covers(number, item, j)
         } else {
-            self.second.covers(number, bytes, places, j)
+            self.second.covers(number, item, j)
         }
     }
 
-    fn lay(&self, number: u16, bytes: &[u8], places: &[Place], j: usize, sector: &mut [u8; 512]) {
+    fn lay(&self, number: u16, item: Item<'_>, j: usize, sector: &mut [u8; 512]) {
         if self.first.has(number) {
-            self.first.lay(number, bytes, places, j, sector);
+            self.first.lay(number, item, j, sector);
         } else {
-            self.second.lay(number, bytes, places, j, sector);
+            self.second.lay(number, item, j, sector);
         }
     }
 }

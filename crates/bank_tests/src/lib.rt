@@ -8,8 +8,9 @@ mod tests {
     use bank::one::One;
     use buffer::kind::Buffers;
     use item::class::Class;
-    use item::kind::ItemKind;
+    use item::item::Item;
     use item::place::Place;
+    use keys::patch::PatchKey;
 
     const BUFFER: u16 = 0x123C;
 
@@ -55,30 +56,32 @@ mod tests {
         bytes
     }
 
-    fn is_patch(class: Option<Class>) -> bool {
-        match class {
-            Some(Class::Patch(key)) => key.sector == 8 && key.length == 1,
-            _ => false,
-        }
-    }
-
-    fn is_malformed(class: Option<Class>) -> bool {
-        match class {
-            Some(Class::Malformed) => true,
-            _ => false,
-        }
-    }
+    const SECTOR_8: PatchKey = PatchKey {
+        sector: 8,
+        length: 1,
+    };
 
     #[test]
     fn built_lays_a_buffer(rt: HostRuntime) {
         let bank = built_bank();
-        let bytes = two_runs();
-        assert!(rt; is_patch(bank.classify(BUFFER, &bytes, &TWO_RUNS)));
-        assert!(rt; is_malformed(bank.classify(BUFFER, &bytes, &TWO_RUNS[0..2])));
-        assert!(rt; bank.covers(BUFFER, &bytes, &TWO_RUNS, 0));
-        assert!(rt; !bank.covers(BUFFER, &bytes, &TWO_RUNS, 1));
+        let bytes = &two_runs();
+        let item = Item {
+            bytes,
+            places: &TWO_RUNS,
+        };
+        let one_region_short = Item {
+            bytes,
+            places: &TWO_RUNS[0..2],
+        };
+        assert_eq!(rt; bank.classify(BUFFER, item), Some(Class::Patch(SECTOR_8)));
+        assert_eq!(rt;
+            bank.classify(BUFFER, one_region_short),
+            Some(Class::Malformed)
+        );
+        assert!(rt; bank.covers(BUFFER, item, 0));
+        assert!(rt; !bank.covers(BUFFER, item, 1));
         let mut sector = [1; 512];
-        bank.lay(BUFFER, &bytes, &TWO_RUNS, 0, &mut sector);
+        bank.lay(BUFFER, item, 0, &mut sector);
         assert!(rt; sector[0] == 7 && sector[127] == 7);
         assert!(rt; sector[128] == 1 && sector[255] == 1);
         assert!(rt; sector[256] == 9 && sector[511] == 9);
@@ -87,22 +90,36 @@ mod tests {
     #[test]
     fn built_opens_and_closes(rt: HostRuntime) {
         let bank = built_bank();
-        match bank.classify(OPEN, &intent(0x36), &INTENT) {
-            Some(Class::Open(id)) => assert_eq!(rt; id, 0x0177),
-            _ => assert!(rt; false),
-        }
-        match bank.classify(CLOSE, &intent(0x37), &INTENT) {
-            Some(Class::Close(id)) => assert_eq!(rt; id, 0x0177),
-            _ => assert!(rt; false),
-        }
-        assert!(rt; is_malformed(bank.classify(OPEN, &intent(0x36), &[])));
+        let open = Item {
+            bytes: &intent(0x36),
+            places: &INTENT,
+        };
+        let close = Item {
+            bytes: &intent(0x37),
+            places: &INTENT,
+        };
+        let no_region = Item {
+            places: &[],
+            ..open
+        };
+        assert_eq!(rt; bank.classify(OPEN, open), Some(Class::Open(0x0177)));
+        assert_eq!(rt; bank.classify(CLOSE, close), Some(Class::Close(0x0177)));
+        assert_eq!(rt; bank.classify(OPEN, no_region), Some(Class::Malformed));
     }
 
     #[test]
     fn one_kind_has_no_other(rt: HostRuntime) {
         let bank = One { kind: Buffers };
-        assert!(rt; is_patch(bank.classify(BUFFER, &two_runs(), &TWO_RUNS)));
-        assert!(rt; bank.classify(OPEN, &intent(0x36), &INTENT).is_none());
+        let patch = Item {
+            bytes: &two_runs(),
+            places: &TWO_RUNS,
+        };
+        let open = Item {
+            bytes: &intent(0x36),
+            places: &INTENT,
+        };
+        assert_eq!(rt; bank.classify(BUFFER, patch), Some(Class::Patch(SECTOR_8)));
+        assert_eq!(rt; bank.classify(OPEN, open), None);
         assert!(rt; bank.has(BUFFER) && !bank.has(OPEN) && !bank.has(CLOSE));
     }
 }

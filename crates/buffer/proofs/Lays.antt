@@ -1,6 +1,6 @@
 -- Chunk after chunk laid over a sector. Assumes nothing.
 use Rattle.std.proofs.Common.{◌≡◌, ℕ, zero, suc, ◌+◌, ◌-◌, ◌*◌, ◌<◌, ◌≤◌, Bool, true, false, cond, eqb, ltb, List, [], ◌∷◌, length, get_or, drop, Some, None, Option, sym, refl, ap, ◌∙◌, subst, inl, inr, arith}
-use Rattle.std.proofs.lemmas.List.{get_or-drop, ext_get_or}
+use Rattle.std.proofs.lemmas.List.{ext_get_or}
 use Rattle.std.proofs.lemmas.Bool.{cases_lt, cases_Bool, lt-ltb, le-ltb}
 use Rattle.codec.specs.Fields.{joined}
 use Rattle.keys.specs.declared.patch.PatchKey.{PatchKey}
@@ -19,12 +19,16 @@ moved_small : (x : Bool) (c : Cursor) → ((moved x c).region ≤ c.region + 1) 
 moved_small true c = (omega arith, omega arith)
 moved_small false c = elim (cases_Bool (eqb c.byte 0)) [ inl e ↦ rw e (omega arith, omega arith) | inr e ↦ rw e (omega arith, omega arith) ]
 
-pub cursor_small : (h : List ℕ) (k : ℕ) → ((cursor h k).region ≤ k) × ((cursor h k).byte ≤ 128 * k)
+cursor_small : (h : List ℕ) (k : ℕ) → ((cursor h k).region ≤ k) × ((cursor h k).byte ≤ 128 * k)
 cursor_small h zero = (omega arith, omega arith)
 cursor_small h (suc k) =
     let i = cursor_small h k in
     let a = moved_small (map_bit h k) (cursor h k) in
     (omega arith, omega arith)
+
+-- where the walk stands no number is large
+pub small_at : (h : List ℕ) (k : ℕ) (at : Cursor) → at ≡ cursor h k → (at.region ≤ k) × (at.byte ≤ 128 * k)
+small_at h k at e = let s = cursor_small h k in let Small : Cursor → Type 0 = λ c. (c.region ≤ k) × (c.byte ≤ 128 * k) in subst Small (sym e) s
 
 -- a step of the walk in the code
 pub stepped : (h : List ℕ) (k k' : ℕ) (at next : Cursor) (x : Bool) → k' ≡ k + 1 → at ≡ cursor h k → x ≡ map_bit h k → next ≡ moved x at → next ≡ cursor h k'
@@ -95,39 +99,32 @@ set_chunk os xs ys zs m v g s inside before behind j =
     ]
 
 -- A turn of the loop over the chunks of sector k: chunk i, where the walk stands at `at`.
-module _ (h : List ℕ) (n : ℕ) (rs : List (List ℕ)) (fit : regions_fit (map_bits h 0 n) (drop 1 rs) ≡ true) (k i : ℕ) (low : i < 4) (in-range : 4 * k + 4 ≤ n) (at : Cursor) (here : at ≡ cursor h (4 * k + i)) where
+module _ (h : List ℕ) (n : ℕ) (ds : List (List ℕ)) (fit : regions_fit (map_bits h 0 n) ds ≡ true) (k i : ℕ) (low : i < 4) (in-range : 4 * k + 4 ≤ n) (at : Cursor) (here : at ≡ cursor h (4 * k + i)) where
   abbrev pub sector_cover : List (Option ℕ)
-  sector_cover = cover_of (cover (map_bits h 0 n) (joined (drop 1 rs))) k
+  sector_cover = cover_of (cover (map_bits h 0 n) (joined ds)) k
 
   -- the region that the walk stands in
-  region_is : (d : List ℕ) → d ≡ get_or rs (1 + at.region) [] → d ≡ get_or (drop 1 rs) (cursor h (4 * k + i)).region []
-  region_is d e = e ∙ sym (get_or-drop 1 rs at.region []) ∙ ap (λ (x : Cursor). get_or (drop 1 rs) x.region []) here
+  region_is : (d : List ℕ) → d ≡ get_or ds at.region [] → d ≡ get_or ds (cursor h (4 * k + i)).region []
+  region_is d e = e ∙ ap (λ (x : Cursor). get_or ds x.region []) here
 
-  pub small : n ≤ 256 → (at.region ≤ 256) × (at.byte ≤ 32768)
-  small few =
-      let s = cursor_small h (4 * k + i) in
-      let a : at.region ≡ (cursor h (4 * k + i)).region = ap (λ (x : Cursor). x.region) here in
-      let b : at.byte ≡ (cursor h (4 * k + i)).byte = ap (λ (x : Cursor). x.byte) here in
-      (omega arith, omega arith)
-
-  pub has_room : (d : List ℕ) → map_bit h (4 * k + i) ≡ true → d ≡ get_or rs (1 + at.region) [] → at.byte + 128 ≤ length d
+  pub has_room : (d : List ℕ) → map_bit h (4 * k + i) ≡ true → d ≡ get_or ds at.region [] → at.byte + 128 ≤ length d
   has_room d t e =
-      let r = chunk_room h n (drop 1 rs) fit (4 * k + i) (omega arith) t in
+      let r = chunk_room h n ds fit (4 * k + i) (omega arith) t in
       let a : at.byte ≡ (cursor h (4 * k + i)).byte = ap (λ (x : Cursor). x.byte) here in
-      let b : length d ≡ length (get_or (drop 1 rs) (cursor h (4 * k + i)).region []) = ap length (region_is d e) in
+      let b : length d ≡ length (get_or ds (cursor h (4 * k + i)).region []) = ap length (region_is d e) in
       omega arith
 
-  pub turn_set : (xs ys zs d : List ℕ) → map_bit h (4 * k + i) ≡ true → d ≡ get_or rs (1 + at.region) [] → Laid sector_cover xs ys (128 * i)
+  pub turn_set : (xs ys zs d : List ℕ) → map_bit h (4 * k + i) ≡ true → d ≡ get_or ds at.region [] → Laid sector_cover xs ys (128 * i)
       → ((j : ℕ) → j < 128 → get_or zs (128 * i + j) 0 ≡ get_or d (at.byte + j) 0) → ((j : ℕ) → j < 128 * i → get_or zs j 0 ≡ get_or ys j 0) → ((j : ℕ) → 128 * i + 128 ≤ j → get_or zs j 0 ≡ get_or ys j 0)
       → Laid sector_cover xs zs (128 * (i + 1))
   turn_set xs ys zs d t e g inside before behind =
       let q : 128 * i + 128 ≡ 128 * (i + 1) = omega arith in
       let c = cursor h (4 * k + i) in
-      let b = get_or (drop 1 rs) c.region [] in
+      let b = get_or ds c.region [] in
       let given : (j : ℕ) → j < 128 → get_or sector_cover (128 * i + j) None ≡ Some (get_or b (c.byte + j) 0) = λ j l.
       let x : 512 * k + (128 * i + j) ≡ 128 * (4 * k + i) + j = omega arith in
-      sector_at (cover (map_bits h 0 n) (joined (drop 1 rs))) k (128 * i + j) (omega arith)
-      ∙ ap (λ (y : ℕ). get_or (cover (map_bits h 0 n) (joined (drop 1 rs))) y None) x ∙ chunk_set h n (drop 1 rs) fit (4 * k + i) (omega arith) t j l in
+      sector_at (cover (map_bits h 0 n) (joined ds)) k (128 * i + j) (omega arith)
+      ∙ ap (λ (y : ℕ). get_or (cover (map_bits h 0 n) (joined ds)) y None) x ∙ chunk_set h n ds fit (4 * k + i) (omega arith) t j l in
       let one : (j : ℕ) → j < 128 → get_or zs (128 * i + j) 0 ≡ get_or b (c.byte + j) 0 = λ j l. inside j l ∙ ap (λ (x : List ℕ). get_or x (at.byte + j) 0) (region_is d e) ∙ ap (λ (x : Cursor). get_or b (x.byte + j) 0) here in
       subst (λ m. Laid sector_cover xs zs m) q (set_chunk sector_cover xs ys zs (128 * i) (λ j. get_or b (c.byte + j) 0) g given one before behind)
 
@@ -136,8 +133,8 @@ module _ (h : List ℕ) (n : ℕ) (rs : List (List ℕ)) (fit : regions_fit (map
       let q : 128 * i + 128 ≡ 128 * (i + 1) = omega arith in
       let given : (j : ℕ) → j < 128 → get_or sector_cover (128 * i + j) None ≡ None = λ j l.
       let x : 512 * k + (128 * i + j) ≡ 128 * (4 * k + i) + j = omega arith in
-      sector_at (cover (map_bits h 0 n) (joined (drop 1 rs))) k (128 * i + j) (omega arith)
-      ∙ ap (λ (y : ℕ). get_or (cover (map_bits h 0 n) (joined (drop 1 rs))) y None) x ∙ chunk_clear h n (drop 1 rs) fit (4 * k + i) (omega arith) t j l in
+      sector_at (cover (map_bits h 0 n) (joined ds)) k (128 * i + j) (omega arith)
+      ∙ ap (λ (y : ℕ). get_or (cover (map_bits h 0 n) (joined ds)) y None) x ∙ chunk_clear h n ds fit (4 * k + i) (omega arith) t j l in
       let r = skip_chunk sector_cover xs ys (128 * i) g given in
       subst (λ m. Laid sector_cover xs zs m) q (subst (λ (us : List ℕ). Laid sector_cover xs us (128 * i + 128)) (sym e) r)
 

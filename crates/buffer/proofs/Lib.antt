@@ -1,3 +1,4 @@
+pub mod Bits
 pub mod Matching
 pub mod Chunks
 pub mod Covered

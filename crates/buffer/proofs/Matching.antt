@@ -1,9 +1,9 @@
 -- Bits of a map, its runs, and regions matched to them one after the other. Assumes nothing.
 use Rattle.std.proofs.Common.{◌≡◌, ℕ, zero, suc, ◌+◌, ◌-◌, ◌*◌, ◌<◌, ◌≤◌, Bool, true, false, ◌&&◌, eqb, List, [], ◌∷◌, map, length, get_or, drop, sym, refl, ap, ◌∙◌, inl, inr, arith}
-use Rattle.std.proofs.lemmas.List.{get_or-drop, length-drop, length-map, get_or-map, drop_all, drop_more}
-use Rattle.std.proofs.lemmas.Bool.{cases_lt, cases_eq, cases_Bool, eq-eqb, ne_eqb, both_ways}
+use Rattle.std.proofs.lemmas.List.{length-map, get_or-map, drop_all, drop_more}
+use Rattle.std.proofs.lemmas.Bool.{cases_lt, cases_eq, eq-eqb, ne_eqb, both_ways}
 use Rattle.codec.specs.Fields.{same}
-use Rattle.item.specs.Buffer.{map_bit, map_bits, none_set, runs, regions_fit}
+use Rattle.item.specs.Buffer.{map_bit, map_bits, runs, regions_fit}
 use Rattle.item.specs.Whole.{length_bits}
 use Rattle.item.specs.Regions.{region, regions}
 use Rattle.item.specs.declared.place.Place.{Place}
@@ -29,20 +29,6 @@ module _ (h : List ℕ) where
       elim (cases_lt m n) [
         | inl l ↦ (let e : m - n ≡ 0 = omega arith in let k : length (map_bits h 0 m) ≤ n = let q = length_bits h 0 m in omega arith in rw e (sym (drop_all n (map_bits h 0 m) k)))
         | inr l ↦ (let e : n + (m - n) ≡ m = omega arith in let f : 0 + n ≡ n = omega arith in sym (ap (λ a. drop n (map_bits h 0 a)) (sym e) ∙ drop_bits n 0 (m - n) ∙ ap (λ a. map_bits h a (m - n)) f))
-      ]
-
-  pub none_all : (b m : ℕ) → ((k : ℕ) → b ≤ k → k < b + m → map_bit h k ≡ false) → true ≡ none_set (map_bits h b m)
-  none_all b zero z = refl
-  none_all b (suc m) z =
-      let e : map_bit h b ≡ false = z b (omega arith) (omega arith) in
-      rw e (none_all (b + 1) m (λ k x y. z k (omega arith) (omega arith)))
-
-  pub none_one : (b m k : ℕ) → b ≤ k → k < b + m → map_bit h k ≡ true → false ≡ none_set (map_bits h b m)
-  none_one b zero k x y t = absurd (let f : ⊥ = omega arith in f)
-  none_one b (suc m) k x y t =
-      elim (cases_eq b k) [
-        | inl q ↦ (let e : map_bit h b ≡ true = ap (map_bit h) q ∙ t in rw e)
-        | inr q ↦ (elim (cases_Bool (map_bit h b)) [ inl e ↦ rw e | inr e ↦ rw e (none_one (b + 1) m k (omega arith) (omega arith) t) ])
       ]
 
   -- bits that are not set are before the runs; bits that are set lengthen the first one
@@ -129,25 +115,11 @@ module _ (h : List ℕ) where
               ap (λ w. same [] (map (λ (x : ℕ). 128 * x) (runs 0 (map_bits h f w)))) m ∙ z ∙ sym (ne_eqb f n q))
         ]
 
--- the data regions by their places
-
-pub data_length : (b : List ℕ) (ps : List Place) → length (drop 1 (regions b ps)) ≡ length ps - 1
-data_length b ps = length-drop 1 (regions b ps) ∙ ap (λ n. n - 1) (length-map ps (region b))
-
-pub data_get : (b : List ℕ) (ps : List Place) (i : ℕ) (d : Place) → 0 < i → i < length ps → get_or (drop 1 (regions b ps)) (i - 1) [] ≡ region b (get_or ps i d)
-data_get b ps i d z h =
-    let e : 1 + (i - 1) ≡ i = omega arith in
-    get_or-drop 1 (regions b ps) (i - 1) [] ∙ ap (λ k. get_or (regions b ps) k []) e ∙ get_or-map (region b) ps i d [] h
-
--- a turn of the loop over the places: t says whether the region is of the size of its run
-pub turn : (h : List ℕ) (n : ℕ) (bytes : List ℕ) (ps : List Place) (i b f e : ℕ) (d : Place) (t : Bool) → FirstSet h n b f → f < n → RunTo h n f e → 0 < i → i < length ps
-    → t ≡ eqb (length (region bytes (get_or ps i d))) (128 * (e - f)) → left h n (drop 1 (regions bytes ps)) (i - 1) b ≡ (t && left h n (drop 1 (regions bytes ps)) i e)
-turn h n bytes ps i b f e d t first l run z k q =
-    let ds = drop 1 (regions bytes ps) in
-    let a : length ds ≡ length ps - 1 = data_length bytes ps in
-    let m : i - 1 < length ds = omega arith in
-    let j : (i - 1) + 1 ≡ i = omega arith in
-    left_run h n ds (i - 1) b f first e l run m
-    ∙ ap (λ (r : List ℕ). eqb (length r) (128 * (e - f)) && left h n ds ((i - 1) + 1) e) (data_get bytes ps i d z k)
-    ∙ ap (λ (w : Bool). w && left h n ds ((i - 1) + 1) e) (sym q)
-    ∙ ap (λ (x : ℕ). t && left h n ds x e) j
+-- a turn of the loop over the places: t says whether region i is of the size of its run
+pub turn : (h : List ℕ) (n : ℕ) (bytes : List ℕ) (ps : List Place) (i b f e : ℕ) (d : Place) (t : Bool) → FirstSet h n b f → f < n → RunTo h n f e → i < length ps
+    → t ≡ eqb (length (region bytes (get_or ps i d))) (128 * (e - f)) → left h n (regions bytes ps) i b ≡ (t && left h n (regions bytes ps) (i + 1) e)
+turn h n bytes ps i b f e d t first l run k q =
+    let a = length-map ps (region bytes) in
+    left_run h n (regions bytes ps) i b f first e l run (omega arith)
+    ∙ ap (λ (r : List ℕ). eqb (length r) (128 * (e - f)) && left h n (regions bytes ps) (i + 1) e) (get_or-map (region bytes) ps i d [] k)
+    ∙ ap (λ (w : Bool). w && left h n (regions bytes ps) (i + 1) e) (sym q)

@@ -1,11 +1,20 @@
--- Where runs of set bits of a buffer's map begin and end. Assumes nothing.
-use Rattle.std.specs.Prelude.{◌≡◌, ℕ, ◌<◌, ◌≤◌, true, false, List}
-use Rattle.item.specs.Buffer.{map_bit}
+-- The bits of a buffer's map, and where runs of set ones begin and end. Assumes nothing.
+use Rattle.std.specs.Prelude.{◌≡◌, ℕ, ◌<◌, ◌≤◌, Bool, true, false, not, List}
+use Rattle.item.specs.Buffer.{map_bit, map_bits}
+use Rattle.buffer.specs.declared.map.Map.{Map}
+
+-- the bits of a map that stand for chunks
+abbrev pub bits_of : Map → List Bool
+bits_of map = map_bits map.head.now 0 map.bits
+
+-- r is the first bit of the map h from b on that is as wanted, or n if none below it is
+abbrev pub FirstBit : Bool → List ℕ → ℕ → ℕ → ℕ → Type 0
+FirstBit wanted h n b r = (b ≤ r) × (r ≤ n) × ((k : ℕ) → b ≤ k → k < r → map_bit h k ≡ not wanted) × (r < n → map_bit h r ≡ wanted)
 
 -- r is the first set bit of the map h from b on, or n if there is none below it
 abbrev pub FirstSet : List ℕ → ℕ → ℕ → ℕ → Type 0
-FirstSet h n b r = (b ≤ r) × (r ≤ n) × ((k : ℕ) → b ≤ k → k < r → map_bit h k ≡ false) × (r < n → map_bit h r ≡ true)
+FirstSet = FirstBit true
 
 -- the bits from b to r are set, and r is not, or is n
 abbrev pub RunTo : List ℕ → ℕ → ℕ → ℕ → Type 0
-RunTo h n b r = (b ≤ r) × (r ≤ n) × ((k : ℕ) → b ≤ k → k < r → map_bit h k ≡ true) × (r < n → map_bit h r ≡ false)
+RunTo = FirstBit false

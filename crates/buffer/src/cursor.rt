@@ -1,8 +1,47 @@
 // A place in the data regions of a buffer.
+ghost use Rattle.std.specs.Prelude.{◌≡◌, ◌<◌, ◌≤◌};
+ghost use Rattle.buffer.specs.Walk.{moved, cursor};
+
+use crate::map::Map;
 
 // A data region, and a byte in it.
 #[derive(Clone, Copy)]
 pub struct Cursor {
     pub region: usize,
     pub byte: usize,
+}
+
+impl Cursor {
+    // Past one chunk, set or not.
+    pub(crate) fn step_past(self, here: bool) -> Cursor
+        requires few { self.region < 1000 }
+        requires near { self.byte < 100000 }
+        ensures { result ≡ moved here self }
+    {
+        if here {
+            return Cursor {
+                byte: self.byte + 128,
+                ..self
+            };
+        }
+        if self.byte == 0 {
+            return self;
+        }
+        Cursor {
+            region: self.region + 1,
+            byte: 0,
+        }
+    }
+
+    // Where the walk over a map stands before chunk b.
+    pub(crate) fn before(map: Map<'_>, b: usize) -> Cursor
+        requires { b ≤ 256 }
+        ensures { result ≡ cursor map.entry.head.now b }
+    {
+        let mut at = Cursor { region: 0, byte: 0 };
+        for k in 0..b {
+            at = at.step_past(map.bit(k));
+        }
+        at
+    }
 }

@@ -5,8 +5,8 @@ ghost use Rattle.item.specs.Whole.{buffer_whole};
 
 use crate::{laying, shape};
 use item::class::Class;
+use item::item::Item;
 use item::kind::ItemKind;
-use item::place::Place;
 
 // Buffers, of type 0x123C.
 #[derive(Drop)]
@@ -29,15 +29,15 @@ impl ItemKind for Buffers {
         true
     }
 
-    fn classify(&self, bytes: &[u8], places: &[Place]) -> Class {
-        shape::classify(bytes, places)
+    fn classify(&self, item: Item<'_>) -> Class {
+        shape::classify(item)
     }
 
-    fn covers(&self, bytes: &[u8], places: &[Place], j: usize) -> bool {
-        laying::covers(bytes, places, j)
+    fn covers(&self, item: Item<'_>, j: usize) -> bool {
+        laying::covers(item, j)
     }
 
-    fn lay(&self, bytes: &[u8], places: &[Place], j: usize, sector: &mut [u8; 512]) {
-        laying::lay(bytes, places, j, sector);
+    fn lay(&self, item: Item<'_>, j: usize, sector: &mut [u8; 512]) {
+        laying::lay(item, j, sector);
     }
 }

@@ -1,63 +1,68 @@
 // The map of a buffer.
-ghost use Rattle.std.specs.Prelude.{◌≡◌, ◌-◌, ◌≤◌, true, false, drop, slice_index};
-ghost use Rattle.item.specs.Buffer.{map_bit, map_bits, none_set};
-ghost use Rattle.buffer.specs.Runs.{FirstSet, RunTo};
+ghost use Rattle.std.specs.Prelude.{◌≡◌, ◌-◌, ◌*◌, ◌≤◌, drop};
+ghost use Rattle.item.specs.Buffer.{map_bit, map_bits, none_set, buffer_length};
+ghost use Rattle.buffer.specs.Runs.{FirstBit, FirstSet, RunTo};
 
-// A byte of a first region, 0 past its end.
-fn byte(head: &[u8], at: usize) -> u8
-    ensures { result ≡ slice_index head.now at }
-{
-    if at < head.len() { head[at] } else { 0 }
+use codec::fields::le16;
+
+// A first region, and how many bits of its map stand for chunks of the range.
+#[derive(Clone, Copy)]
+pub(crate) struct Map<'a> {
+    pub(crate) head: &'a [u8],
+    pub(crate) bits: usize,
 }
 
-// Bit b of the map of a first region, least bit first.
-pub(crate) fn map_bit(head: &[u8], b: usize) -> bool
-    ensures { result ≡ map_bit head.now b }
-{
-    (byte(head, 20 + b / 8) >> (b % 8)) % 2 == 1
-}
-
-// The first set bit from b on, or n.
-pub(crate) fn next_set(head: &[u8], n: usize, b: usize) -> usize
-    requires { b ≤ n }
-    ensures { FirstSet head.now n b result }
-{
-    for k in b..n {
-        if map_bit(head, k) {
-            return k;
+impl<'a> Map<'a> {
+    // The map of a first region, with 4 bits for each sector of the length.
+    pub(crate) fn of(head: &'a [u8]) -> Map<'a>
+        ensures head { result.head.now ≡ head.now }
+        ensures bits { result.bits ≡ 4 * buffer_length head.now }
+    {
+        Map {
+            head,
+            bits: 4 * usize::from(le16(head, 6)),
         }
     }
-    n
-}
 
-// Where the run that begins at b ends.
-pub(crate) fn run_end(head: &[u8], n: usize, b: usize) -> usize
-    requires { b ≤ n }
-    ensures { RunTo head.now n b result }
-{
-    for k in b..n {
-        if !map_bit(head, k) {
-            return k;
-        }
+    // Bit b, least bit first; none is set past the region's end.
+    pub(crate) fn bit(&self, b: usize) -> bool
+        ensures { result ≡ map_bit self.now.head.now b }
+    {
+        let byte = self.head.get(20 + b / 8).copied().unwrap_or(0);
+        (byte >> (b % 8)) % 2 == 1
     }
-    n
-}
 
-// Whether no bit from n to m is set.
-pub(crate) fn none_set(head: &[u8], n: usize, m: usize) -> bool
-    ensures { result ≡ none_set (map_bits head.now n (m - n)) }
-{
-    for b in n..m {
-        if map_bit(head, b) {
-            return false;
-        }
+    // The first bit from b on that is as wanted, or the number of bits.
+    fn first(&self, wanted: bool, b: usize) -> usize
+        requires { b ≤ self.now.bits }
+        ensures { FirstBit wanted self.now.head.now self.now.bits b result }
+    {
+        (b..self.bits)
+            .find(|&k| self.bit(k) == wanted)
+            .unwrap_or(self.bits)
     }
-    true
-}
 
-// Whether no bit of a map of m bits is set from bit n on.
-pub(crate) fn none_beyond(head: &[u8], n: usize, m: usize) -> bool
-    ensures { result ≡ none_set (drop n (map_bits head.now 0 m)) }
-{
-    none_set(head, n, m)
+    // The first set bit from b on, or the number of bits.
+    pub(crate) fn next_set(&self, b: usize) -> usize
+        requires { b ≤ self.now.bits }
+        ensures { FirstSet self.now.head.now self.now.bits b result }
+    {
+        self.first(true, b)
+    }
+
+    // Where the run that begins at b ends.
+    pub(crate) fn run_end(&self, b: usize) -> usize
+        requires { b ≤ self.now.bits }
+        ensures { RunTo self.now.head.now self.now.bits b result }
+    {
+        self.first(false, b)
+    }
+
+    // Whether no bit from n to m is set.
+    pub(crate) fn none_set(&self, n: usize, m: usize) -> bool
+        ensures between { result ≡ none_set (map_bits self.now.head.now n (m - n)) }
+        ensures beyond { result ≡ none_set (drop n (map_bits self.now.head.now 0 m)) }
+    {
+        !(n..m).any(|b| self.bit(b))
+    }
 }

@@ -1,39 +1,35 @@
 // The runs of a map, and the regions that they take.
-ghost use Rattle.std.specs.Prelude.{◌≡◌, ◌*◌, ◌≤◌, length, drop, ◌==◌};
-ghost use Rattle.item.specs.Buffer.{map_bits, regions_fit};
-ghost use Rattle.item.specs.Regions.{region, regions};
+ghost use Rattle.std.specs.Prelude.{◌≡◌, ◌*◌, ◌≤◌, length, ◌==◌};
+ghost use Rattle.item.specs.Buffer.{regions_fit};
+ghost use Rattle.item.specs.Items.{regions_of};
+ghost use Rattle.item.specs.Regions.{region};
+ghost use Rattle.buffer.specs.Runs.{bits_of};
 
-use crate::map::{next_set, run_end};
+use crate::map::Map;
+use item::item::Item;
 use item::place::Place;
-use item::region::region_of;
 
 // Whether a region is of just the size of a run of `chunks` set bits.
 fn is_run(bytes: &[u8], place: Place, chunks: usize) -> bool
     requires { chunks ≤ 65536 }
     ensures { result ≡ (length (region bytes.now place) == 128 * chunks) }
 {
-    region_of(bytes, place).len() == 128 * chunks
+    place.region(bytes).len() == 128 * chunks
 }
 
-// Whether each run of the n bits has one region of just its size, in order, after the first region.
-pub(crate) fn runs_match(head: &[u8], n: usize, bytes: &[u8], places: &[Place]) -> bool
-    requires { n ≤ 65536 }
-    ensures { result ≡ regions_fit (map_bits head.now 0 n) (drop 1 (regions bytes.now places.now)) }
+// Whether each run of the map has one region of just its size, in order.
+pub(crate) fn runs_match(map: Map<'_>, rest: Item<'_>) -> bool
+    requires { map.bits ≤ 65536 }
+    ensures { result ≡ regions_fit (bits_of map.entry) (regions_of rest.entry) }
 {
     let mut b = 0;
-    for (i, place) in places.iter().enumerate() {
-        if i == 0 {
-            continue;
-        }
-        let first = next_set(head, n, b);
-        if first == n {
-            return false;
-        }
-        let end = run_end(head, n, first);
-        if !is_run(bytes, *place, end - first) {
+    for place in rest.places {
+        let first = map.next_set(b);
+        let end = map.run_end(first);
+        if first == map.bits || !is_run(rest.bytes, *place, end - first) {
             return false;
         }
         b = end;
     }
-    next_set(head, n, b) == n
+    map.next_set(b) == map.bits
 }

@@ -9,14 +9,14 @@ ghost use Rattle.intent.specs.Intents.{intent_of};
 
 use codec::fields::{le16, le32, le64};
 use item::class::Class;
+use item::item::Item;
 use item::kind::ItemKind;
-use item::place::Place;
-use item::region::region_at;
 
 // Intents to free something, and what closes them.
 #[derive(Drop)]
 pub struct FreeIntents;
 
+// Kept: any number but OPEN closes what it names, so an enum of the two types would need a third variant that acts as its second.
 const OPEN: u16 = 0x1236;
 
 const CLOSE: u16 = 0x1237;
@@ -28,8 +28,7 @@ fn fits(region: &[u8]) -> bool
     let extents = le32(region, 4);
     let least = if le16(region, 0) == OPEN { 1 } else { 0 };
     region.len() >= 16
-        && least <= extents
-        && extents <= 16
+        && (least..=16).contains(&extents)
         && region.len() == 16 + 16 * extents as usize
 }
 
@@ -64,16 +63,16 @@ impl ItemKind for FreeIntents {
         false
     }
 
-    fn classify(&self, bytes: &[u8], places: &[Place]) -> Class {
-        if places.len() != 1 {
-            return Class::Malformed;
+    fn classify(&self, item: Item<'_>) -> Class {
+        match item.places {
+            [place] => intent_class(place.region(item.bytes)),
+            _ => Class::Malformed,
         }
-        intent_class(region_at(bytes, places, 0))
     }
 
-    fn covers(&self, _bytes: &[u8], _places: &[Place], _j: usize) -> bool {
+    fn covers(&self, _item: Item<'_>, _j: usize) -> bool {
         false
     }
 
-    fn lay(&self, _bytes: &[u8], _places: &[Place], _j: usize, _sector: &mut [u8; 512]) {}
+    fn lay(&self, _item: Item<'_>, _j: usize, _sector: &mut [u8; 512]) {}
 }

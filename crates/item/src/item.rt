@@ -30,7 +30,7 @@ impl<'a> Item<'a> {
     }
 
     // What it has behind its first region.
-    pub fn data(&self) -> Item<'a>
+    pub fn rest(&self) -> Item<'a>
         ensures { regions_of result ≡ drop 1 (regions_of self.now) }
     {
         Item {

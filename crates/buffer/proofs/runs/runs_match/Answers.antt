@@ -1,50 +1,38 @@
-use Rattle.std.proofs.Common.{◌≡◌, ℕ, ◌+◌, ◌-◌, ◌<◌, ◌≤◌, true, false, length, drop, sym, ap, ◌∙◌, arith}
-use Rattle.item.specs.Regions.{regions}
-use Rattle.buffer.proofs.Matching.{left, left_all, left_none, left_end, data_length, turn}
+use Rattle.std.proofs.Common.{◌<◌, true, false, sym, ◌∙◌, arith}
+use Rattle.std.proofs.lemmas.List.{length-map}
+use Rattle.item.specs.Items.{regions_of}
+use Rattle.item.specs.Regions.{region}
+use Rattle.buffer.proofs.Matching.{left_none, left_end, turn}
 use Rattle.buffer.proofs.runs.runs_match.Goals as goal
+use Rattle.buffer.proofs.runs.runs_match.Goals.{then-first-map-via-then-first-map, then-first-map-via-else-first-map+then-not-is_run}
 
-pub loop-i-init : goal.loop-i-init
-loop-i-init c =
-    let ds = drop 1 (regions c.args.bytes.now c.args.places.now) in
-    (omega arith, left_all c.args.head.now c.args.n ds)
+pub returns-then-first-map : goal.returns-then-first-map
+returns-then-first-map c =
+    let map = c.args.map in
+    let rest = c.args.rest in
+    let i = c.loop-place.place-index in
+    let first = c.next_set-first.ensures in
+    let m = length-map rest.places.now (region rest.bytes.now) in
+    elim c.then-first-map.branch [
+      | then-first-map-via-then-first-map w ↦ sym (left_none map.head.now map.bits (regions_of rest) i c.loop-place.b c.next_set-first.result first w.if-first-map.true (omega arith)) ∙ c.loop-place.invariant.1
+      | then-first-map-via-else-first-map+then-not-is_run w ↦ (let f : c.next_set-first.result < map.bits = let x = first.1 in omega arith in
+          sym (turn map.head.now map.bits rest.bytes.now rest.places.now i c.loop-place.b c.next_set-first.result c.run_end-end.result (record { offset = 0; length = 0 }) false first f c.run_end-end.ensures c.loop-place-test.true w.if-not-is_run.ensures)
+          ∙ c.loop-place.invariant.1)
+    ]
 
-pub returns-then-first-n : goal.returns-then-first-n
-returns-then-first-n c =
-    let ds = drop 1 (regions c.args.bytes.now c.args.places.now) in
-    let i = c.loop-i.i in
-    let e : length ds ≡ length c.args.places.now - 1 = data_length c.args.bytes.now c.args.places.now in
-    let l : i - 1 < length ds = omega arith in
-    sym (left_none c.args.head.now c.args.n ds (i - 1) c.loop-i.b c.next_set-first.result c.next_set-first.ensures c.if-first-n.true l) ∙ c.loop-i.invariant.1
-
-pub returns-then-not-is_run : goal.returns-then-not-is_run
-returns-then-not-is_run c =
-    let ds = drop 1 (regions c.args.bytes.now c.args.places.now) in
-    let h = c.args.head.now in
-    let n = c.args.n in
-    let i = c.loop-i.i in
-    let f = c.next_set-first.result in
-    let l : f < n = let x = c.next_set-first.ensures.1 in omega arith in
-    let z : 0 < i = omega arith in
-    let t = turn h n c.args.bytes.now c.args.places.now i c.loop-i.b f c.run_end-end.result (record { offset = 0; length = 0 }) false c.next_set-first.ensures l c.run_end-end.ensures z c.loop-i-test.true c.if-not-is_run.ensures in
-    sym t ∙ c.loop-i.invariant.1
-
-pub loop-i-preserved : goal.loop-i-preserved
-loop-i-preserved c =
-    let ds = drop 1 (regions c.args.bytes.now c.args.places.now) in
-    let h = c.args.head.now in
-    let n = c.args.n in
-    let i = c.loop-i.i in
-    let f = c.next_set-first.result in
-    let l : f < n = let x = c.next_set-first.ensures.1 in omega arith in
-    let z : 0 < i = omega arith in
-    let t = turn h n c.args.bytes.now c.args.places.now i c.loop-i.b f c.run_end-end.result (record { offset = 0; length = 0 }) true c.next_set-first.ensures l c.run_end-end.ensures z c.loop-i-test.true c.if-not-is_run.ensures in
-    let e : (i + 1) - 1 ≡ i = omega arith in
-    (c.run_end-end.ensures.1, ap (λ (x : ℕ). left h n ds x c.run_end-end.result) e ∙ sym t ∙ c.loop-i.invariant.1)
+pub loop-place-preserved : goal.loop-place-preserved
+loop-place-preserved c =
+    let map = c.args.map in
+    let rest = c.args.rest in
+    let first = c.next_set-first.ensures in
+    let f : c.next_set-first.result < map.bits = let x = first.1 in omega arith in (
+      c.run_end-end.ensures.1,
+      sym (turn map.head.now map.bits rest.bytes.now rest.places.now c.loop-place.place-index c.loop-place.b c.next_set-first.result c.run_end-end.result (record { offset = 0; length = 0 }) true first f c.run_end-end.ensures c.loop-place-test.true c.if-not-is_run.ensures)
+          ∙ c.loop-place.invariant.1,
+    )
 
 pub returns : goal.returns
 returns c =
-    let ds = drop 1 (regions c.args.bytes.now c.args.places.now) in
-    let i = c.loop-i.i in
-    let e : length ds ≡ length c.args.places.now - 1 = data_length c.args.bytes.now c.args.places.now in
-    let l : length ds ≤ i - 1 = omega arith in
-    sym (left_end c.args.head.now c.args.n ds (i - 1) c.loop-i.b c.next_set.result c.next_set.ensures l) ∙ c.loop-i.invariant.1
+    let rest = c.args.rest in
+    let m = length-map rest.places.now (region rest.bytes.now) in
+    sym (left_end c.args.map.head.now c.args.map.bits (regions_of rest) c.loop-place.place-index c.loop-place.b c.next_set.result c.next_set.ensures (omega arith)) ∙ c.loop-place.invariant.1
