@@ -1,4 +1,3 @@
-pub mod Limits
 pub mod Rows
 pub mod Ordered
 pub mod Window

@@ -1,5 +1,6 @@
 -- Sectors read one after the other, and the list of them. Assumes nothing.
-use Rattle.std.proofs.Common.{◌≡◌, ℕ, zero, suc, ◌+◌, ◌-◌, ◌^◌, ◌<◌, ◌≤◌, max, Bool, true, false, cond, ltb, List, [], ◌∷◌, get_or, Ok, Err, Result, sym, refl, ap, ◌∙◌, inl, inr, arith}
+use Rattle.std.proofs.Common.{◌≡◌, ℕ, zero, suc, ◌+◌, ◌-◌, ◌<◌, ◌≤◌, max, Bool, true, false, cond, ltb, List, [], ◌∷◌, get_or, Ok, Err, Result, sym, refl, ap, ◌∙◌, inl, inr, arith}
+use Rattle.std.proofs.Math.Nat.{mod-eq_of_lt, mod-lt}
 use Rattle.std.proofs.lemmas.Bool.{cases_lt}
 use Rattle.device.specs.State.{DevState, Sector, holds, unreadable, sector_at, bytes_of}
 use Rattle.device.specs.Steps.{fault, readable, read, then_rest, then_read, reads}
@@ -7,9 +8,10 @@ use Rattle.device.proofs.Reading.{reads_each}
 use Rattle.device.specs.declared.fault.Cause.TheVariants.{Beyond}
 use Rattle.device.specs.declared.fault.DeviceFault.{DeviceFault}
 use Rattle.label.specs.declared.label.Label.{Label}
+use Rattle.label.specs.Position.{volume_sector, log_sector}
 use Rattle.record.specs.Record.{held_position}
-use Rattle.model.specs.View.{held_by, greatest_of, greatest}
-use Rattle.volume_log.specs.Sectors.{sectors_of, log_of, Readable, scanned, Small}
+use Rattle.model.specs.View.{at, held_by, greatest_of, greatest}
+use Rattle.volume_log.specs.Sectors.{sectors_of, log_of, Readable, greatest_on}
 
 -- a value is no refusal
 pub not_both : {A B : Type 0} (r : Result A DeviceFault) (x : A) (f : DeviceFault) → r ≡ Ok x → r ≡ Err f → B
@@ -70,6 +72,10 @@ list_at d a zero k l = absurd (omega arith)
 list_at d a (suc n) zero l = let z : a ≡ a + 0 = omega arith in ap (λ i. bytes_of (sector_at d i)) z
 list_at d a (suc n) (suc k) l = let z : a + 1 + k ≡ a + suc k = omega arith in list_at d (a + 1) n k (omega arith) ∙ ap (λ i. bytes_of (sector_at d i)) z
 
+-- log sector i is that of position i
+pub read_own : (d : DevState) (L : Label) (i : ℕ) (r q : Result (List ℕ) DeviceFault) → i < L.count → r ≡ read d (volume_sector L i) → r ≡ q → read d (L.start + i) ≡ q
+read_own d L i r q l e h = ap (λ k. read d (L.start + k)) (sym (mod-eq_of_lt l)) ∙ sym e ∙ h
+
 -- a log sector that was read is that of the list
 pub log_at : (d : DevState) (L : Label) (i : ℕ) (b : List ℕ) → i < L.count → read d (L.start + i) ≡ Ok b → b ≡ get_or (log_of d L) i []
 log_at d L i b l e = read_holds d (L.start + i) b e ∙ sym (list_at d L.start L.count i l)
@@ -82,25 +88,8 @@ greatest_more d L i m m' p b l e a h q =
     q ∙ ap (λ x. max x p) a ∙ ap (max (greatest_of L (log_of d L) i)) (h ∙ ap (held_position L i) (log_at d L i b l e)) ∙ ap (greatest_of L (log_of d L)) (sym s)
 
 -- all sectors were looked at
-pub greatest_all : (d : DevState) (L : Label) (i m : ℕ) → i ≡ L.count → Each d L.start i → m ≡ greatest_of L (log_of d L) i → ◌≡◌ {A = Result ℕ DeviceFault} (Ok m) (scanned (reads d L.start L.count) (greatest L))
-greatest_all d L i m e h q =
-    let r : reads d L.start L.count ≡ Ok (log_of d L) = reads_all d L.start L.count (λ k l. h k (omega arith)) in
-    ap Ok (q ∙ ap (greatest_of L (log_of d L)) e) ∙ sym (ap (λ x. scanned x (greatest L)) r)
-
--- one of them was refused
-pub greatest_stop : (d : DevState) (L : Label) (i : ℕ) (f : DeviceFault) → i < L.count → Each d L.start i → read d (L.start + i) ≡ Err f → scanned (reads d L.start L.count) (greatest L) ≡ Err f
-greatest_stop d L i f l h e = ap (λ x. scanned x (greatest L)) (reads_stop d L.start L.count i f l h e)
-
-scanned_ok : {A : Type 0} (r : Result (List (List ℕ)) DeviceFault) (f : List (List ℕ) → A) (x : A) → scanned r f ≡ Ok x → (log : List (List ℕ)) × (r ≡ Ok log) × (f log ≡ x)
-scanned_ok (Ok log) f x e = (log, refl, cc)
-scanned_ok (Err e) f x h = not_both (Ok x) x e refl (sym h)
-
--- where a greatest position was found, the log can be read and it is that of its sectors
-pub found_greatest : (d : DevState) (L : Label) (m : ℕ) → scanned (reads d L.start L.count) (greatest L) ≡ Ok m → Readable d L × (m ≡ greatest L (log_of d L))
-found_greatest d L m e =
-    let p = scanned_ok (reads d L.start L.count) (greatest L) m e in
-    let q = reads_are d L.start L.count p.0 p.1 in
-    (p.1 ∙ ap Ok q, sym p.2 ∙ ap (greatest L) q)
+pub greatest_all : (d : DevState) (L : Label) (i m : ℕ) → i ≡ L.count → Each d L.start i → m ≡ greatest_of L (log_of d L) i → Readable d L × (m ≡ greatest_on d L)
+greatest_all d L i m e h q = (reads_all d L.start L.count (λ k l. h k (omega arith)), q ∙ ap (greatest_of L (log_of d L)) e)
 
 at_most : (L : Label) (log : List (List ℕ)) (n k : ℕ) → k < n → held_by L log k ≤ greatest_of L log n
 at_most L log zero k h = absurd (omega arith)
@@ -111,28 +100,10 @@ at_most L log (suc n) k h =
 pub greatest_least : (L : Label) (log : List (List ℕ)) → 1 ≤ L.count → L.count ≤ greatest L log + 1
 greatest_least L log h = omega (arith, at_most L log L.count (L.count - 1) (omega arith))
 
--- a sector of a log that can be read is not refused
-pub each_of : (d : DevState) (a n : ℕ) (bs : List (List ℕ)) (i : ℕ) → reads d a n ≡ Ok bs → i < n → (b : List ℕ) × (read d (a + i) ≡ Ok b)
-each_of d a n bs i e l = (get_or bs i [], (reads_each d a n bs e).1 i l)
+-- a sector of a log that can be read
+pub read_at : (d : DevState) (L : Label) (x : ℕ) → 0 < L.count → Readable d L → read d (volume_sector L x) ≡ Ok (at L (log_of d L) x)
+read_at d L x l r = (reads_each d L.start L.count (log_of d L) r).1 (log_sector L x) (mod-lt x l)
 
-pub never : {A : Type 0} (d : DevState) (L : Label) (i : ℕ) (f : DeviceFault) → Readable d L → i < L.count → read d (L.start + i) ≡ Err f → A
-never d L i f h l e = let p = each_of d L.start L.count (log_of d L) i h l in not_both (read d (L.start + i)) p.0 f p.1 e
-
-small_is : (m : ℕ) (r : Result ℕ DeviceFault) → Small r → r ≡ Ok m → m < 2 ^ 53
-small_is m (Ok x) h e = let z : x ≡ m = cc in omega arith
-small_is m (Err f) h e = not_both (Ok m) m f refl (sym e)
-
--- what is known of a log whose greatest position m was found
-pub record Scanned (d : DevState) (L : Label) (m : ℕ) : Type 0 where
-  pub readable : Readable d L
-  pub is : m ≡ greatest L (log_of d L)
-  pub least : L.count ≤ m + 1
-  pub small : m < 2 ^ 53
-
-pub known : (d : DevState) (L : Label) (m : ℕ) (r : Result ℕ DeviceFault) → 1 ≤ L.count → r ≡ scanned (reads d L.start L.count) (greatest L) → Small r → r ≡ Ok m → Scanned d L m
-known d L m r h a b e =
-    let p = found_greatest d L m (sym a ∙ e) in
-    record { readable = p.0; is = p.1; least = omega (arith, p.1, greatest_least L (log_of d L) h); small = small_is m r b e }
-
-pub ok_is : (r : Result ℕ DeviceFault) (x y : ℕ) → r ≡ Ok x → r ≡ Ok y → x ≡ y
-ok_is r x y a b = cc
+-- a call gives one value
+pub one_value : {A : Type 0} (r : Result A DeviceFault) (x y : A) → r ≡ Ok x → r ≡ Ok y → x ≡ y
+one_value r x y a b = cc

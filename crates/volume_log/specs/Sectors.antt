@@ -1,11 +1,10 @@
 -- The sectors of a log on a device, and whether one of them is in order. Assumes nothing.
-use Rattle.std.specs.Prelude.{◌≡◌, ℕ, zero, suc, ◌+◌, ◌^◌, ◌<◌, Bool, ◌&&◌, ◌||◌, List, [], ◌∷◌, Ok, Err, Result, ◌==◌, nat_lt}
+use Rattle.std.specs.Prelude.{◌≡◌, ℕ, zero, suc, ◌+◌, Bool, ◌&&◌, ◌||◌, List, [], ◌∷◌, Ok, ◌==◌, nat_lt}
 use Rattle.device.specs.State.{DevState, sector_at, bytes_of}
 use Rattle.device.specs.Steps.{reads}
-use Rattle.device.specs.declared.fault.DeviceFault.{DeviceFault}
 use Rattle.label.specs.declared.label.Label.{Label}
 use Rattle.record.specs.Record.{held_cycle, held_position}
-use Rattle.model.specs.View.{due}
+use Rattle.model.specs.View.{due, greatest}
 
 -- the bytes of n sectors from i on, none for one that is unreadable
 abbrev pub sectors_of : DevState → ℕ → ℕ → List (List ℕ)
@@ -20,15 +19,9 @@ log_of d L = sectors_of d L.start L.count
 abbrev pub Readable : DevState → Label → Type 0
 Readable d L = reads d L.start L.count ≡ Ok (log_of d L)
 
--- what is made of the sectors that were read
-abbrev pub scanned : {A : Type 0} → Result (List (List ℕ)) DeviceFault → (List (List ℕ) → A) → Result A DeviceFault
-scanned (Ok log) f = Ok (f log)
-scanned (Err e) f = Err e
-
--- a position that was found fits
-abbrev pub Small : Result ℕ DeviceFault → Type 0
-Small (Ok m) = m < 2 ^ 53
-Small (Err f) = Unit {0}
+-- the greatest position that they hold
+abbrev pub greatest_on : DevState → Label → ℕ
+greatest_on d L = greatest L (log_of d L)
 
 -- log sector i, with the bytes b, is in order beside the greatest position M
 abbrev pub sector_in_order : Label → ℕ → ℕ → List ℕ → Bool

@@ -1,5 +1,5 @@
 -- What is found in a log on a device. Assumes nothing.
-use Rattle.std.specs.Prelude.{ℕ, cond, List, Ok, nat_le}
+use Rattle.std.specs.Prelude.{ℕ, Bool, false, cond, List, Ok, nat_le}
 use Rattle.device.specs.State.{DevState}
 use Rattle.label.specs.declared.label.Label.{Label}
 use Rattle.label.specs.Position.{volume_sector}
@@ -9,8 +9,6 @@ use Rattle.model.specs.Refusals.{refusal, by_record, Outcome, ◌>>=◌, need}
 use Rattle.model.specs.View.{read_log, search_log, tail_of, tail_stands}
 use Rattle.model.specs.View.{Found as Seen}
 use Rattle.volume_log.specs.declared.found.Found.{Found}
-use Rattle.volume_log.specs.declared.found.Look.{Look}
-use Rattle.volume_log.specs.declared.found.Look.TheVariants.{Passed, Broken, Newest}
 
 -- the numbers that are found, without the sectors
 abbrev pub numbers : Seen → Found
@@ -20,9 +18,13 @@ numbers f = record { greatest = f.M; head = f.h; newest = f.n; end = f.e; tail =
 abbrev pub found_on : DevState → Label → Outcome Found
 found_on d L = read_log d L >>= λ log. search_log L log >>= λ f. Ok (numbers f)
 
--- what the sector b, at position x below the head h, is on the way back to the newest record
-abbrev pub look_at : Label → ℕ → ℕ → List ℕ → Look
-look_at L h x b = cond (is_header b) (cond (sound L (header_of b) x) (cond (nat_le (end_of (header_of b) x) h) Newest Passed) Broken) Passed
+-- whether the newest record stands at x below the head h, by the sector b: b is a header, and its record ends by h; 7 where it
+-- is not sound
+abbrev pub look_at : Label → ℕ → ℕ → List ℕ → Outcome Bool
+look_at L h x b =
+    cond (is_header b)
+    (need (sound L (header_of b) x) (refusal 7 by_record (volume_sector L x) 0) >>= λ _. Ok (nat_le (end_of (header_of b) x) h))
+    (Ok false)
 
 -- e and t by the newest record's header r
 abbrev pub ends_by : Label → ℕ → ℕ → ℕ → RecordHeader → Outcome Found

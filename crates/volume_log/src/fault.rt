@@ -5,6 +5,8 @@ ghost use Rattle.volume_log.specs.declared.cause.LogFault.TheVariants.{Device};
 
 use crate::cause::LogFault;
 use device::fault::DeviceFault;
+use std::error::Error;
+use std::fmt;
 
 // The device's refusal travels up as it is.
 impl From<DeviceFault> for LogFault {
@@ -46,3 +48,33 @@ impl LogFault {
         }
     }
 }
+
+impl fmt::Display for LogFault {
+    fn fmt<W: fmt::Write>(&self, f: &mut fmt::Formatter<W>) -> fmt::Result {
+        let number = self.number();
+        let sector = self.sector();
+        match self {
+            LogFault::Device(_) => write!(f, "sector {sector} of the device: refused {number}"),
+            LogFault::Label => write!(f, "label: a field breaks its limit, refused {number}"),
+            LogFault::Buffer => write!(f, "buffer: too short for a record, refused {number}"),
+            LogFault::Disorder { .. } => {
+                write!(f, "log at sector {sector}: not in order, refused {number}")
+            }
+            LogFault::Empty => write!(f, "log: no newest record, refused {number}"),
+            LogFault::Unsound { .. } => {
+                write!(f, "header at sector {sector}: not sound, refused {number}")
+            }
+            LogFault::Chain { .. } => {
+                write!(f, "chain at sector {sector}: broken, refused {number}")
+            }
+            LogFault::Checksum { .. } => {
+                write!(
+                    f,
+                    "record at sector {sector}: checksum wrong, refused {number}"
+                )
+            }
+        }
+    }
+}
+
+impl Error for LogFault {}

@@ -9,12 +9,3 @@ pub struct Found {
     pub end: u64,
     pub tail: u64,
 }
-
-// What a sector is on the way back from the head: no header, or one whose record ends beyond the head; a header that is not
-// sound; the header of the newest record.
-#[derive(Clone, Copy)]
-pub(crate) enum Look {
-    Passed,
-    Broken,
-    Newest,
-}

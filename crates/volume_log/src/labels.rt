@@ -19,8 +19,5 @@ pub fn read_label<D: Device>(device: &D) -> Result<Geometry, LogFault>
         return Err(LogFault::Label);
     }
     let sector = read_sector(device, 0)?;
-    match geometry_of(label_of(&sector), size) {
-        Some(geometry) => Ok(geometry),
-        None => Err(LogFault::Label),
-    }
+    geometry_of(label_of(&sector), size).ok_or(LogFault::Label)
 }

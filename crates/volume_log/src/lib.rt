@@ -4,7 +4,8 @@
 pub mod cause;
 pub mod fault;
 pub mod found;
+pub mod headers;
 pub mod labels;
-mod order;
+pub mod log;
+mod scanned;
 pub mod sectors;
-pub mod seek;

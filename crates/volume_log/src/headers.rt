@@ -1,0 +1,47 @@
+// What a record's header tells at its position.
+ghost use Rattle.std.specs.Prelude.{◌≡◌, ◌^◌, ◌<◌, nat_le};
+ghost use Rattle.volume_log.specs.Faults.{outcome};
+ghost use Rattle.volume_log.specs.Seeking.{look_at};
+ghost use Rattle.record.specs.Record.{end_of};
+
+use crate::cause::LogFault;
+use label::geometry::Geometry;
+use record::header::RecordHeader;
+use record::heading::{header_of, is_header, sound};
+
+// The position after the record whose header stands at `position`.
+pub(crate) fn end_of(header: &RecordHeader, position: u64) -> u64
+    requires { position < 2 ^ 63 }
+    ensures { result ≡ end_of header.now position }
+{
+    position + 1 + header.length as u64 / 512
+}
+
+// Whether the record whose header stands at `position` ends by `end`.
+pub fn ends_by(header: &RecordHeader, position: u64, end: u64) -> bool
+    ensures { result ≡ nat_le (end_of header.now position) end }
+{
+    position < end && (header.length as u64 / 512) < end - position
+}
+
+// Whether the newest record stands at `position`, back from the head: there is a header, and its record ends by the head;
+// refused where the header is not sound.
+pub(crate) fn look_at(
+    geometry: Geometry,
+    head: u64,
+    position: u64,
+    sector: &[u8; 512],
+) -> Result<bool, LogFault>
+    ensures { outcome result ≡ look_at geometry.label head position sector.now }
+{
+    if !is_header(sector) {
+        return Ok(false);
+    }
+    let header = header_of(sector);
+    if !sound(geometry, &header, position) {
+        return Err(LogFault::Unsound {
+            sector: geometry.sector_of(position),
+        });
+    }
+    Ok(ends_by(&header, position, head))
+}
