@@ -3,7 +3,7 @@ ghost use Rattle.std.specs.Prelude.{◌≡◌, ◌-◌, ◌*◌, ◌≤◌, drop
 ghost use Rattle.item.specs.Buffer.{map_bit, map_bits, none_set, buffer_length};
 ghost use Rattle.buffer.specs.Runs.{FirstBit, FirstSet, RunTo};
 
-use codec::fields::le16;
+use codec::fields::Number;
 
 // A first region, and how many bits of its map stand for chunks of the range.
 #[derive(Clone, Copy)]
@@ -20,7 +20,7 @@ impl<'a> Map<'a> {
     {
         Map {
             head,
-            bits: 4 * usize::from(le16(head, 6)),
+            bits: 4 * usize::from(u16::le_at(head, 6)),
         }
     }
 

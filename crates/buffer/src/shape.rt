@@ -7,7 +7,7 @@ ghost use Rattle.item.specs.Items.{regions_of};
 
 use crate::map::Map;
 use crate::runs::runs_match;
-use codec::fields::{le_i64, le16, le32};
+use codec::fields::Number;
 use item::class::Class;
 use item::item::Item;
 use keys::patch::PatchKey;
@@ -21,9 +21,9 @@ const CANCEL: u16 = 2;
 fn has_sound_map(head: &[u8]) -> bool
     ensures { result ≡ (le32 head.now 16 == map_words head.now && length head.now == 20 + 4 * map_words head.now && none_set (drop (4 * buffer_length head.now) (map_bits head.now 0 (32 * map_words head.now)))) }
 {
-    let length = usize::from(le16(head, 6));
+    let length = usize::from(u16::le_at(head, 6));
     let words = length.div_ceil(8);
-    le32(head, 16) as usize == words
+    u32::le_at(head, 16) as usize == words
         && head.len() == 20 + 4 * words
         && Map::of(head).none_set(4 * length, 32 * words)
 }
@@ -34,15 +34,15 @@ pub(crate) fn classify(item: Item<'_>) -> Class
 {
     let head = item.region(0);
     let rest = item.rest();
-    let length = le16(head, 6);
+    let length = u16::le_at(head, 6);
     if head.len() < 20 || !(1..=64).contains(&length) {
         return Class::Malformed;
     }
     let key = PatchKey {
-        sector: le_i64(head, 8),
+        sector: i64::le_at(head, 8),
         length: u32::from(length),
     };
-    match le16(head, 4) {
+    match u16::le_at(head, 4) {
         CANCEL if rest.count() == 0 => Class::Cancel(key),
         PATCH if has_sound_map(head) && runs_match(Map::of(head), rest) => Class::Patch(key),
         _ => Class::Malformed,

@@ -7,7 +7,7 @@ ghost use Rattle.item.specs.Intent.{intent_fits, intent_meaning};
 ghost use Rattle.item.specs.Whole.{intent_whole};
 ghost use Rattle.intent.specs.Intents.{intent_of};
 
-use codec::fields::{le16, le32, le64};
+use codec::fields::Number;
 use item::class::Class;
 use item::item::Item;
 use item::kind::ItemKind;
@@ -25,8 +25,8 @@ const CLOSE: u16 = 0x1237;
 fn fits(region: &[u8]) -> bool
     ensures { result ≡ intent_fits region.now }
 {
-    let extents = le32(region, 4);
-    let least = if le16(region, 0) == OPEN { 1 } else { 0 };
+    let extents = u32::le_at(region, 4);
+    let least = if u16::le_at(region, 0) == OPEN { 1 } else { 0 };
     region.len() >= 16
         && (least..=16).contains(&extents)
         && region.len() == 16 + 16 * extents as usize
@@ -39,8 +39,8 @@ fn intent_class(region: &[u8]) -> Class
     if !fits(region) {
         return Class::Malformed;
     }
-    let id = le64(region, 8);
-    match le16(region, 0) {
+    let id = u64::le_at(region, 8);
+    match u16::le_at(region, 0) {
         OPEN => Class::Open(id),
         _ => Class::Close(id),
     }

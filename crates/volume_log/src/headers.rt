@@ -7,7 +7,7 @@ ghost use Rattle.record.specs.Record.{end_of};
 use crate::cause::LogFault;
 use label::geometry::Geometry;
 use record::header::RecordHeader;
-use record::heading::{header_of, is_header, sound};
+use record::heading::{is_header, sound};
 
 // The position after the record whose header stands at `position`.
 pub(crate) fn end_of(header: &RecordHeader, position: u64) -> u64
@@ -37,7 +37,7 @@ pub(crate) fn look_at(
     if !is_header(sector) {
         return Ok(false);
     }
-    let header = header_of(sector);
+    let header = RecordHeader::from(sector);
     if !sound(geometry, &header, position) {
         return Err(LogFault::Unsound {
             sector: geometry.sector_of(position),

@@ -15,7 +15,7 @@ use device::fault::DeviceFault;
 use device::interface::Device;
 use label::position::join;
 use record::header::RecordHeader;
-use record::heading::{header_of, held_cycle, held_position};
+use record::heading::{held_cycle, held_position};
 
 // A log that can be read, and the greatest position that it holds.
 #[derive(Drop)]
@@ -156,6 +156,6 @@ impl<'a, D: Device> Scanned<'a, D> {
         self.coherent()?;
         let head = self.head()?;
         let newest = self.newest(head)?;
-        self.ended(head, newest, &header_of(&self.sector_at(newest)?))
+        self.ended(head, newest, &RecordHeader::from(&self.sector_at(newest)?))
     }
 }
