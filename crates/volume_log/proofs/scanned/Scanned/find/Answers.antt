@@ -64,4 +64,4 @@ returns g c =
     let q = accepted c.coherent.result tt (coherent_from L (log_of s L) a.greatest 0 L.count) c.coherent.ensures c.in_ok-coherent.was in
     let w = accepted c.newest.result n (newest L (log_of s L) a.greatest h) c.newest.ensures c.in_ok-newest.was in
     let b = one_value c.sector_at.result _ _ c.in_ok-sector_at.was c.sector_at.ensures in
-    c.ended.ensures ∙ ap (ends_by L a.greatest h n) (c.header_of.ensures ∙ ap header_of b) ∙ sym (last_step s L a.greatest h n a.readable a.is e q w)
+    c.ended.ensures ∙ ap (ends_by L a.greatest h n) (c.from.ensures ∙ ap header_of b) ∙ sym (last_step s L a.greatest h n a.readable a.is e q w)
