@@ -15,11 +15,7 @@ pub goes_on : (xs ys : List Action) (d e : DevState) (r : Answer) → run xs d �
 goes_on xs ys d e r h a =
     run_on xs ys d e r h ∙ ap (λ q. then q e (run ys e)) a
 
--- and after one that stopped nothing
-pub ends_there : (xs ys : List Action) (d e : DevState) (r : Answer) (f : DeviceFault) → run xs d ≡ ran r e → r ≡ Err f → run (xs ++ ys) d ≡ ran (Err f) e
-ends_there xs ys d e r f h a =
-    run_on xs ys d e r h ∙ ap (λ q. then q e (run ys e)) a
-
--- a refusal handed on
-pub handed : (q : Answer) (f y : DeviceFault) (e : DevState) → q ≡ Err y → y ≡ f → ran (Err f) e ≡ ran q e
-handed q f y e a b = ap (λ z. ran (Err z) e) (sym b) ∙ ap (λ z. ran z e) (sym a)
+-- and after one that stopped nothing: q is the refusal that is handed on
+pub ends_there : (xs ys : List Action) (d e : DevState) (r q : Answer) (f y : DeviceFault) → run xs d ≡ ran r e → r ≡ Err f → q ≡ Err y → y ≡ f → run (xs ++ ys) d ≡ ran q e
+ends_there xs ys d e r q f y h stop back same =
+    run_on xs ys d e r h ∙ ap (λ x. then x e (run ys e)) stop ∙ ap (λ z. ran (Err z) e) (sym same) ∙ ap (λ z. ran z e) (sym back)
