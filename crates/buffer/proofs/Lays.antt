@@ -1,11 +1,11 @@
 -- Chunk after chunk laid over a sector. Assumes nothing.
-use Rattle.std.proofs.Common.{◌≡◌, ℕ, zero, suc, ◌+◌, ◌-◌, ◌*◌, ◌<◌, ◌≤◌, Bool, true, false, cond, eqb, ltb, List, [], ◌∷◌, length, get_or, drop, Some, None, Option, sym, refl, ap, ◌∙◌, subst, inl, inr, arith}
+use Rattle.std.proofs.Common.{◌≡◌, ℕ, zero, suc, ◌+◌, ◌-◌, ◌*◌, ◌<◌, ◌≤◌, Bool, true, false, cond, eqb, ltb, List, [], ◌∷◌, length, get_or, Some, None, Option, sym, refl, ap, ◌∙◌, subst, inl, inr, arith}
 use Rattle.std.proofs.lemmas.List.{ext_get_or}
 use Rattle.std.proofs.lemmas.Bool.{cases_lt, cases_Bool, lt-ltb, le-ltb}
 use Rattle.codec.specs.Fields.{joined}
 use Rattle.keys.specs.declared.patch.PatchKey.{PatchKey}
 use Rattle.item.specs.Meaning.{Meaning}
-use Rattle.item.specs.Buffer.{map_bit, map_bits, regions_fit, cover, buffer_length, buffer_meaning}
+use Rattle.item.specs.Buffer.{map_bit, map_bits, regions_fit, cover, buffer_meaning}
 use Rattle.item.specs.Covers.{cover_of, give, overlay, laid}
 use Rattle.item.specs.Whole.{Patched}
 use Rattle.buffer.specs.Walk.{moved, cursor}
@@ -15,7 +15,7 @@ use Rattle.buffer.proofs.Covered.{sector_at, past}
 
 -- The walk goes by one region or 128 bytes at most.
 
-moved_small : (x : Bool) (c : Cursor) → ((moved x c).region ≤ c.region + 1) × ((moved x c).byte ≤ c.byte + 128)
+pub moved_small : (x : Bool) (c : Cursor) → ((moved x c).region ≤ c.region + 1) × ((moved x c).byte ≤ c.byte + 128)
 moved_small true c = (omega arith, omega arith)
 moved_small false c = elim (cases_Bool (eqb c.byte 0)) [ inl e ↦ rw e (omega arith, omega arith) | inr e ↦ rw e (omega arith, omega arith) ]
 
@@ -56,9 +56,6 @@ overlay_none (b ∷ bs) = refl
 -- ys is xs with the values os laid over its bytes below m
 abbrev pub Laid : List (Option ℕ) → List ℕ → List ℕ → ℕ → Type 0
 Laid os xs ys m = (j : ℕ) → get_or ys j 0 ≡ cond (ltb j m) (give (get_or os j None) (get_or xs j 0)) (get_or xs j 0)
-
-pub laid_none : (os : List (Option ℕ)) (xs : List ℕ) → Laid os xs xs 0
-laid_none os xs j = let e : ltb j 0 ≡ false = le-ltb j 0 (omega arith) in rw e
 
 pub laid_all : (os : List (Option ℕ)) (xs ys : List ℕ) (m : ℕ) → length ys ≡ length xs → length xs ≤ m → Laid os xs ys m → ys ≡ overlay os xs
 laid_all os xs ys m l h g =
@@ -141,17 +138,3 @@ module _ (h : List ℕ) (n : ℕ) (ds : List (List ℕ)) (fit : regions_fit (map
 -- past the range nothing is laid
 pub laid_past : (rs : List (List ℕ)) (key : PatchKey) (k : ℕ) (xs : List ℕ) → Patched rs key → key.length ≤ k → xs ≡ laid (buffer_meaning rs) k xs
 laid_past rs key k xs w l = sym (ap (λ (m : Meaning). laid m k xs) w.meaning ∙ ap (λ (os : List (Option ℕ)). overlay os xs) (past rs key w k l) ∙ overlay_none xs)
-
--- within it what the loop leaves is laid
-pub laid_in : (rs : List (List ℕ)) (key : PatchKey) (k : ℕ) (xs ys h : List ℕ) → Patched rs key → h ≡ get_or rs 0 [] → ys ≡ overlay (cover_of (cover (map_bits h 0 (4 * key.length)) (joined (drop 1 rs))) k) xs → ys ≡ laid (buffer_meaning rs) k xs
-laid_in rs key k xs ys h w e q =
-    let n : 4 * key.length ≡ 4 * buffer_length (get_or rs 0 []) = ap (λ (x : PatchKey). 4 * x.length) (sym w.key) in
-    q ∙ ap (λ (z : List ℕ). overlay (cover_of (cover (map_bits z 0 (4 * key.length)) (joined (drop 1 rs))) k) xs) e
-    ∙ ap (λ (m : ℕ). overlay (cover_of (cover (map_bits (get_or rs 0 []) 0 m) (joined (drop 1 rs))) k) xs) n
-    ∙ sym (ap (λ (m : Meaning). laid m k xs) w.meaning)
-
--- the regions fit the map as the code reads it
-pub fit_in : (rs : List (List ℕ)) (key : PatchKey) (h : List ℕ) → Patched rs key → h ≡ get_or rs 0 [] → regions_fit (map_bits h 0 (4 * key.length)) (drop 1 rs) ≡ true
-fit_in rs key h w e =
-    let n : 4 * key.length ≡ 4 * buffer_length (get_or rs 0 []) = ap (λ (x : PatchKey). 4 * x.length) (sym w.key) in
-    ap (λ (z : List ℕ). regions_fit (map_bits z 0 (4 * key.length)) (drop 1 rs)) e ∙ ap (λ (m : ℕ). regions_fit (map_bits (get_or rs 0 []) 0 m) (drop 1 rs)) n ∙ w.fitting

@@ -3,7 +3,7 @@ use Rattle.std.proofs.Common.{◌≡◌, ℕ, zero, suc, ◌+◌, ◌-◌, ◌*�
 use Rattle.std.proofs.lemmas.List.{length-map, get_or-map, drop_all, drop_more}
 use Rattle.std.proofs.lemmas.Bool.{cases_lt, cases_eq, eq-eqb, ne_eqb, both_ways}
 use Rattle.codec.specs.Fields.{same}
-use Rattle.item.specs.Buffer.{map_bit, map_bits, runs, regions_fit}
+use Rattle.item.specs.Buffer.{map_bit, map_bits, runs}
 use Rattle.item.specs.Whole.{length_bits}
 use Rattle.item.specs.Regions.{region, regions}
 use Rattle.item.specs.declared.place.Place.{Place}
@@ -78,9 +78,6 @@ module _ (h : List ℕ) where
   -- whether the data regions from number i on fit the runs from bit b on
   abbrev pub left : ℕ → List (List ℕ) → ℕ → ℕ → Bool
   left n ds i b = same (map length (drop i ds)) (map (λ (x : ℕ). 128 * x) (runs 0 (map_bits h b (n - b))))
-
-  pub left_all : (n : ℕ) (ds : List (List ℕ)) → left n ds 0 0 ≡ regions_fit (map_bits h 0 n) ds
-  left_all n ds = let e : n - 0 ≡ n = omega arith in rw e
 
   module _ (n : ℕ) (ds : List (List ℕ)) (i b f : ℕ) (first : FirstSet h n b f) where
     left_first : left n ds i b ≡ left n ds i f
