@@ -1,7 +1,9 @@
 -- What a chunk of a patch's range is given: the bytes that a walk over the map stands at. Assumes nothing.
 use Rattle.std.proofs.Common.{◌≡◌, ℕ, zero, suc, ◌+◌, ◌-◌, ◌*◌, ◌<◌, ◌≤◌, Bool, true, false, eqb, List, [], ◌∷◌, map, length, get_or, take, drop, replicate, Some, None, Option, sym, refl, ap, ◌∙◌, subst, inl, inr, arith}
-use Rattle.std.proofs.lemmas.List.{length-append, length-map, length-take, length-drop, drop-drop, drop_at, get_or-drop, get_or-take, get_or-map, get_or_append_left, get_or-replicate}
-use Rattle.std.proofs.lemmas.Bool.{cases_Bool, and_parts, eqb-true, eq-eqb, ne_eqb, both_ways}
+use Rattle.std.proofs.lemmas.List.{length-map, length-take, length-drop, drop-drop, drop_at, get_or-drop, get_or-take, get_or-map, get_or_append_left, get_or-replicate}
+use Rattle.std.proofs.lemmas.Grind.{common_steps}
+use Rattle.std.proofs.lemmas.Bool.Decides.{nat_tests}
+use Rattle.std.proofs.lemmas.Bool.{cases_Bool, eq-eqb, ne_eqb}
 use Rattle.codec.specs.Fields.{same, joined}
 use Rattle.item.specs.Buffer.{map_bit, map_bits, runs, regions_fit, cover}
 use Rattle.buffer.specs.Walk.{moved, cursor}
@@ -13,22 +15,16 @@ Fit es m bs = same (map length es) (map (λ (x : ℕ). 128 * x) (runs m bs)) ≡
 
 -- the first region has room for what is before
 first_room : (bs : List Bool) (m : ℕ) (es : List (List ℕ)) → Fit es (suc m) bs → 128 * suc m ≤ length (get_or es 0 [])
-first_room [] m [] e = absurd (both_ways false refl e)
-first_room [] m (d ∷ es) e =
-    let q = eqb-true (length d) (128 * suc m) (and_parts (eqb (length d) (128 * suc m)) (same (map length es) []) e).0 in
-    omega arith
-first_room (true ∷ bs) m es e = let r = first_room bs (suc m) es e in omega arith
-first_room (false ∷ bs) m [] e = absurd (both_ways false refl e)
-first_room (false ∷ bs) m (d ∷ es) e =
-    let q = eqb-true (length d) (128 * suc m) (and_parts (eqb (length d) (128 * suc m)) (same (map length es) (map (λ (x : ℕ). 128 * x) (runs 0 bs))) e).0 in
-    omega arith
+first_room [] m [] e = cc
+first_room [] m (d ∷ es) e = grind (arith, nat_tests)
+first_room (true ∷ bs) m es e = grind (arith, first_room bs (suc m) es e)
+first_room (false ∷ bs) m [] e = cc
+first_room (false ∷ bs) m (d ∷ es) e = grind (arith, nat_tests)
 
 -- where a run ends, its region does
 first_ends : (bs : List Bool) (m : ℕ) (es : List (List ℕ)) → Fit es (suc m) (false ∷ bs) → (length (get_or es 0 []) ≡ 128 * suc m) × Fit (drop 1 es) 0 bs
-first_ends bs m [] e = absurd (both_ways false refl e)
-first_ends bs m (d ∷ es) e =
-    let q = and_parts (eqb (length d) (128 * suc m)) (same (map length es) (map (λ (x : ℕ). 128 * x) (runs 0 bs))) e in
-    (eqb-true (length d) (128 * suc m) q.0, q.1)
+first_ends bs m [] e = cc
+first_ends bs m (d ∷ es) e = grind (arith, nat_tests)
 
 joined_past : (es : List (List ℕ)) (y : ℕ) → length (get_or es 0 []) ≡ y → drop y (joined es) ≡ joined (drop 1 es)
 joined_past [] zero e = refl
@@ -36,12 +32,12 @@ joined_past [] (suc y) e = refl
 joined_past (d ∷ es) y e = drop_at d (joined es) y e
 
 joined_first : (es : List (List ℕ)) (j : ℕ) → j < length (get_or es 0 []) → get_or (joined es) j 0 ≡ get_or (get_or es 0 []) j 0
-joined_first [] j l = absurd (let f : ⊥ = omega arith in f)
+joined_first [] j l = absurd (omega arith)
 joined_first (d ∷ es) j l = get_or_append_left d (joined es) 0 j l
 
 joined_long : (es : List (List ℕ)) → length (get_or es 0 []) ≤ length (joined es)
 joined_long [] = omega arith
-joined_long (d ∷ es) = let e = length-append d (joined es) in omega arith
+joined_long (d ∷ es) = grind (arith, common_steps)
 
 -- the bytes of one chunk more
 past_set : (bs : List Bool) (b : List ℕ) → 128 ≤ length b → drop 128 (cover (true ∷ bs) b) ≡ cover bs (drop 128 b)

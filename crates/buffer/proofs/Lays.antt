@@ -1,7 +1,7 @@
 -- Chunk after chunk laid over a sector. Assumes nothing.
-use Rattle.std.proofs.Common.{◌≡◌, ℕ, zero, suc, ◌+◌, ◌-◌, ◌*◌, ◌<◌, ◌≤◌, Bool, true, false, cond, eqb, ltb, List, [], ◌∷◌, length, get_or, Some, None, Option, sym, refl, ap, ◌∙◌, subst, inl, inr, arith}
+use Rattle.std.proofs.Common.{◌≡◌, ℕ, zero, suc, ◌+◌, ◌-◌, ◌*◌, ◌<◌, ◌≤◌, Bool, true, false, cond, ltb, List, [], ◌∷◌, length, get_or, Some, None, Option, sym, refl, ap, ◌∙◌, subst, arith}
 use Rattle.std.proofs.lemmas.List.{ext_get_or}
-use Rattle.std.proofs.lemmas.Bool.{cases_lt, cases_Bool, lt-ltb, le-ltb}
+use Rattle.std.proofs.lemmas.Bool.Decides.{nat_tests}
 use Rattle.codec.specs.Fields.{joined}
 use Rattle.keys.specs.declared.patch.PatchKey.{PatchKey}
 use Rattle.item.specs.Meaning.{Meaning}
@@ -16,8 +16,7 @@ use Rattle.buffer.proofs.Covered.{sector_at, past}
 -- The walk goes by one region or 128 bytes at most.
 
 pub moved_small : (x : Bool) (c : Cursor) → ((moved x c).region ≤ c.region + 1) × ((moved x c).byte ≤ c.byte + 128)
-moved_small true c = (omega arith, omega arith)
-moved_small false c = elim (cases_Bool (eqb c.byte 0)) [ inl e ↦ rw e (omega arith, omega arith) | inr e ↦ rw e (omega arith, omega arith) ]
+moved_small x c = grind (arith, nat_tests)
 
 cursor_small : (h : List ℕ) (k : ℕ) → ((cursor h k).region ≤ k) × ((cursor h k).byte ≤ 128 * k)
 cursor_small h zero = (omega arith, omega arith)
@@ -44,7 +43,7 @@ length_overlay [] (b ∷ bs) = refl
 length_overlay (o ∷ os) (b ∷ bs) = ap suc (length_overlay os bs)
 
 overlay_at : (os : List (Option ℕ)) (b : List ℕ) (o : ℕ) → o < length b → get_or (overlay os b) o 0 ≡ give (get_or os o None) (get_or b o 0)
-overlay_at os [] o h = absurd (let f : ⊥ = omega arith in f)
+overlay_at os [] o h = absurd (omega arith)
 overlay_at [] (b ∷ bs) o h = refl
 overlay_at (v ∷ os) (b ∷ bs) zero h = refl
 overlay_at (v ∷ os) (b ∷ bs) (suc o) h = overlay_at os bs o (omega arith)
@@ -58,42 +57,23 @@ abbrev pub Laid : List (Option ℕ) → List ℕ → List ℕ → ℕ → Type 0
 Laid os xs ys m = (j : ℕ) → get_or ys j 0 ≡ cond (ltb j m) (give (get_or os j None) (get_or xs j 0)) (get_or xs j 0)
 
 pub laid_all : (os : List (Option ℕ)) (xs ys : List ℕ) (m : ℕ) → length ys ≡ length xs → length xs ≤ m → Laid os xs ys m → ys ≡ overlay os xs
-laid_all os xs ys m l h g =
-    ext_get_or 0 ys (overlay os xs) (l ∙ sym (length_overlay os xs)) (λ j a.
-    let k : j < length xs = omega arith in
-    let e : ltb j m ≡ true = lt-ltb j m (omega arith) in
-    g j ∙ rw e (sym (overlay_at os xs j k)))
+laid_all os xs ys m l h g = ext_get_or 0 ys (overlay os xs) (l ∙ sym (length_overlay os xs)) (λ j a. let q = g j in let o = overlay_at os xs j (omega arith) in grind (arith, nat_tests))
 
 -- a chunk that is not set
 skip_chunk : (os : List (Option ℕ)) (xs ys : List ℕ) (m : ℕ) → Laid os xs ys m → ((j : ℕ) → j < 128 → get_or os (m + j) None ≡ None) → Laid os xs ys (m + 128)
-skip_chunk os xs ys m g z j =
-    elim (cases_lt j m) [
-      | inl a ↦ (let d : ltb j m ≡ true = lt-ltb j m a in let e : ltb j (m + 128) ≡ true = lt-ltb j (m + 128) (omega arith) in g j ∙ rw (d, e))
-      | inr a ↦ elim (cases_lt j (m + 128)) [
-        | inl b ↦ (let d : ltb j m ≡ false = le-ltb j m a in
-            let e : ltb j (m + 128) ≡ true = lt-ltb j (m + 128) b in
-            let q : m + (j - m) ≡ j = omega arith in
-            let n : get_or os j None ≡ None = ap (λ (x : ℕ). get_or os x None) (sym q) ∙ z (j - m) (omega arith) in
-            g j ∙ rw (d, e, n))
-        | inr b ↦ (let d : ltb j m ≡ false = le-ltb j m a in let e : ltb j (m + 128) ≡ false = le-ltb j (m + 128) b in g j ∙ rw (d, e))
-      ]
-    ]
+skip_chunk os xs ys m g z j = let q = g j in let n = z (j - m) in let w : m + (j - m) ≡ cond (ltb j m) m j = grind (arith, nat_tests) in grind (arith, nat_tests)
 
 -- a chunk that is set: v j is its byte j
 set_chunk : (os : List (Option ℕ)) (xs ys zs : List ℕ) (m : ℕ) (v : ℕ → ℕ) → Laid os xs ys m → ((j : ℕ) → j < 128 → get_or os (m + j) None ≡ Some (v j)) → ((j : ℕ) → j < 128 → get_or zs (m + j) 0 ≡ v j)
     → ((j : ℕ) → j < m → get_or zs j 0 ≡ get_or ys j 0) → ((j : ℕ) → m + 128 ≤ j → get_or zs j 0 ≡ get_or ys j 0) → Laid os xs zs (m + 128)
 set_chunk os xs ys zs m v g s inside before behind j =
-    elim (cases_lt j m) [
-      | inl a ↦ (let d : ltb j m ≡ true = lt-ltb j m a in let e : ltb j (m + 128) ≡ true = lt-ltb j (m + 128) (omega arith) in before j a ∙ g j ∙ rw (d, e))
-      | inr a ↦ elim (cases_lt j (m + 128)) [
-        | inl b ↦ (let q : m + (j - m) ≡ j = omega arith in
-            let l : j - m < 128 = omega arith in
-            let e : ltb j (m + 128) ≡ true = lt-ltb j (m + 128) b in
-            let n : get_or os j None ≡ Some (v (j - m)) = ap (λ (x : ℕ). get_or os x None) (sym q) ∙ s (j - m) l in
-            ap (λ x. get_or zs x 0) (sym q) ∙ inside (j - m) l ∙ rw (e, n))
-        | inr b ↦ (let d : ltb j m ≡ false = le-ltb j m a in let e : ltb j (m + 128) ≡ false = le-ltb j (m + 128) b in behind j b ∙ g j ∙ rw (d, e))
-      ]
-    ]
+    let q = g j in
+    let n = s (j - m) in
+    let i = inside (j - m) in
+    let b = before j in
+    let e = behind j in
+    let w : m + (j - m) ≡ cond (ltb j m) m j = grind (arith, nat_tests) in
+    grind (arith, nat_tests)
 
 -- A turn of the loop over the chunks of sector k: chunk i, where the walk stands at `at`.
 module _ (h : List ℕ) (n : ℕ) (ds : List (List ℕ)) (fit : regions_fit (map_bits h 0 n) ds ≡ true) (k i : ℕ) (low : i < 4) (in-range : 4 * k + 4 ≤ n) (at : Cursor) (here : at ≡ cursor h (4 * k + i)) where
