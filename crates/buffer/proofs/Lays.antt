@@ -11,7 +11,7 @@ use Rattle.item.specs.Whole.{Patched}
 use Rattle.buffer.specs.Walk.{moved, cursor}
 use Rattle.buffer.specs.declared.cursor.Cursor.{Cursor}
 use Rattle.buffer.proofs.Chunks.{chunk_room, chunk_set, chunk_clear}
-use Rattle.buffer.proofs.Covered.{sector_at, past}
+use Rattle.buffer.proofs.Covered.{sector_chunk, past}
 
 -- The walk goes by one region or 128 bytes at most.
 
@@ -99,9 +99,7 @@ module _ (h : List ℕ) (n : ℕ) (ds : List (List ℕ)) (fit : regions_fit (map
       let c = cursor h (4 * k + i) in
       let b = get_or ds c.region [] in
       let given : (j : ℕ) → j < 128 → get_or sector_cover (128 * i + j) None ≡ Some (get_or b (c.byte + j) 0) = λ j l.
-      let x : 512 * k + (128 * i + j) ≡ 128 * (4 * k + i) + j = omega arith in
-      sector_at (cover (map_bits h 0 n) (joined ds)) k (128 * i + j) (omega arith)
-      ∙ ap (λ (y : ℕ). get_or (cover (map_bits h 0 n) (joined ds)) y None) x ∙ chunk_set h n ds fit (4 * k + i) (omega arith) t j l in
+      sector_chunk (cover (map_bits h 0 n) (joined ds)) k i j low l ∙ chunk_set h n ds fit (4 * k + i) (omega arith) t j l in
       let one : (j : ℕ) → j < 128 → get_or zs (128 * i + j) 0 ≡ get_or b (c.byte + j) 0 = λ j l. inside j l ∙ ap (λ (x : List ℕ). get_or x (at.byte + j) 0) (region_is d e) ∙ ap (λ (x : Cursor). get_or b (x.byte + j) 0) here in
       subst (λ m. Laid sector_cover xs zs m) q (set_chunk sector_cover xs ys zs (128 * i) (λ j. get_or b (c.byte + j) 0) g given one before behind)
 
@@ -109,9 +107,7 @@ module _ (h : List ℕ) (n : ℕ) (ds : List (List ℕ)) (fit : regions_fit (map
   turn_clear xs ys zs t e g =
       let q : 128 * i + 128 ≡ 128 * (i + 1) = omega arith in
       let given : (j : ℕ) → j < 128 → get_or sector_cover (128 * i + j) None ≡ None = λ j l.
-      let x : 512 * k + (128 * i + j) ≡ 128 * (4 * k + i) + j = omega arith in
-      sector_at (cover (map_bits h 0 n) (joined ds)) k (128 * i + j) (omega arith)
-      ∙ ap (λ (y : ℕ). get_or (cover (map_bits h 0 n) (joined ds)) y None) x ∙ chunk_clear h n ds fit (4 * k + i) (omega arith) t j l in
+      sector_chunk (cover (map_bits h 0 n) (joined ds)) k i j low l ∙ chunk_clear h n ds fit (4 * k + i) (omega arith) t j l in
       let r = skip_chunk sector_cover xs ys (128 * i) g given in
       subst (λ m. Laid sector_cover xs zs m) q (subst (λ (us : List ℕ). Laid sector_cover xs us (128 * i + 128)) (sym e) r)
 
