@@ -1,7 +1,9 @@
 -- What a chunk of a patch's range is given: the bytes that a walk over the map stands at. Assumes nothing.
 use Rattle.std.proofs.Common.{◌≡◌, ℕ, zero, suc, ◌+◌, ◌-◌, ◌*◌, ◌<◌, ◌≤◌, Bool, true, false, eqb, List, [], ◌∷◌, map, length, get_or, take, drop, replicate, Some, None, Option, sym, refl, ap, ◌∙◌, subst, inl, inr, arith}
-use Rattle.std.proofs.lemmas.List.{length-append, length-map, length-take, length-drop, drop-drop, drop_at, get_or-drop, get_or-take, get_or-map, get_or_append_left, get_or-replicate}
-use Rattle.std.proofs.lemmas.Bool.{cases_Bool, and_parts, eqb-true, eq-eqb, ne_eqb, both_ways}
+use Rattle.std.proofs.lemmas.List.{length-map, length-take, length-drop, drop-drop, drop_at, get_or-drop, get_or-take, get_or-map, get_or_append_left, get_or-replicate}
+use Rattle.std.proofs.lemmas.Grind.{common_steps}
+use Rattle.std.proofs.lemmas.Bool.Decides.{nat_tests}
+use Rattle.std.proofs.lemmas.Bool.{cases_Bool, eq-eqb, ne_eqb}
 use Rattle.codec.specs.Fields.{same, joined}
 use Rattle.item.specs.Buffer.{map_bit, map_bits, runs, regions_fit, cover}
 use Rattle.buffer.specs.Walk.{moved, cursor}
@@ -13,22 +15,16 @@ Fit es m bs = same (map length es) (map (λ (x : ℕ). 128 * x) (runs m bs)) ≡
 
 -- the first region has room for what is before
 first_room : (bs : List Bool) (m : ℕ) (es : List (List ℕ)) → Fit es (suc m) bs → 128 * suc m ≤ length (get_or es 0 [])
-first_room [] m [] e = absurd (both_ways false refl e)
-first_room [] m (d ∷ es) e =
-    let q = eqb-true (length d) (128 * suc m) (and_parts (eqb (length d) (128 * suc m)) (same (map length es) []) e).0 in
-    omega arith
-first_room (true ∷ bs) m es e = let r = first_room bs (suc m) es e in omega arith
-first_room (false ∷ bs) m [] e = absurd (both_ways false refl e)
-first_room (false ∷ bs) m (d ∷ es) e =
-    let q = eqb-true (length d) (128 * suc m) (and_parts (eqb (length d) (128 * suc m)) (same (map length es) (map (λ (x : ℕ). 128 * x) (runs 0 bs))) e).0 in
-    omega arith
+first_room [] m [] e = cc
+first_room [] m (d ∷ es) e = grind (arith, nat_tests)
+first_room (true ∷ bs) m es e = grind (arith, first_room bs (suc m) es e)
+first_room (false ∷ bs) m [] e = cc
+first_room (false ∷ bs) m (d ∷ es) e = grind (arith, nat_tests)
 
 -- where a run ends, its region does
 first_ends : (bs : List Bool) (m : ℕ) (es : List (List ℕ)) → Fit es (suc m) (false ∷ bs) → (length (get_or es 0 []) ≡ 128 * suc m) × Fit (drop 1 es) 0 bs
-first_ends bs m [] e = absurd (both_ways false refl e)
-first_ends bs m (d ∷ es) e =
-    let q = and_parts (eqb (length d) (128 * suc m)) (same (map length es) (map (λ (x : ℕ). 128 * x) (runs 0 bs))) e in
-    (eqb-true (length d) (128 * suc m) q.0, q.1)
+first_ends bs m [] e = cc
+first_ends bs m (d ∷ es) e = grind (arith, nat_tests)
 
 joined_past : (es : List (List ℕ)) (y : ℕ) → length (get_or es 0 []) ≡ y → drop y (joined es) ≡ joined (drop 1 es)
 joined_past [] zero e = refl
@@ -36,12 +32,12 @@ joined_past [] (suc y) e = refl
 joined_past (d ∷ es) y e = drop_at d (joined es) y e
 
 joined_first : (es : List (List ℕ)) (j : ℕ) → j < length (get_or es 0 []) → get_or (joined es) j 0 ≡ get_or (get_or es 0 []) j 0
-joined_first [] j l = absurd (let f : ⊥ = omega arith in f)
+joined_first [] j l = absurd (omega arith)
 joined_first (d ∷ es) j l = get_or_append_left d (joined es) 0 j l
 
 joined_long : (es : List (List ℕ)) → length (get_or es 0 []) ≤ length (joined es)
 joined_long [] = omega arith
-joined_long (d ∷ es) = let e = length-append d (joined es) in omega arith
+joined_long (d ∷ es) = grind (arith, common_steps)
 
 -- the bytes of one chunk more
 past_set : (bs : List Bool) (b : List ℕ) → 128 ≤ length b → drop 128 (cover (true ∷ bs) b) ≡ cover bs (drop 128 b)
@@ -53,11 +49,8 @@ past_set bs b l =
 abbrev nothing : List (Option ℕ)
 nothing = replicate 128 None
 
-nothing_long : length nothing ≡ 128
-nothing_long = refl
-
 past_clear : (bs : List Bool) (b : List ℕ) → drop 128 (cover (false ∷ bs) b) ≡ cover bs b
-past_clear bs b = drop_at nothing (cover bs b) 128 nothing_long
+past_clear bs b = drop_at nothing (cover bs b) 128 refl
 
 at_set : (bs : List Bool) (b : List ℕ) (o : ℕ) → o < 128 → 128 ≤ length b → get_or (cover (true ∷ bs) b) o None ≡ Some (get_or b o 0)
 at_set bs b o h l =
@@ -69,8 +62,7 @@ at_set bs b o h l =
 
 at_clear : (bs : List Bool) (b : List ℕ) (o : ℕ) → o < 128 → get_or (cover (false ∷ bs) b) o None ≡ None
 at_clear bs b o h =
-    let k : o < length nothing = let x = nothing_long in omega arith in
-    get_or_append_left nothing (cover bs b) None o k ∙ get_or-replicate 128 o None None h
+    get_or_append_left nothing (cover bs b) None o h ∙ get_or-replicate 128 o None None h
 
 -- Of a map h of n bits and data regions ds that fit it, with the cover of both.
 module _ (h : List ℕ) (n : ℕ) (ds : List (List ℕ)) (fit : regions_fit (map_bits h 0 n) ds ≡ true) where
@@ -91,12 +83,21 @@ module _ (h : List ℕ) (n : ℕ) (ds : List (List ℕ)) (fit : regions_fit (map
   bits_at : (c : ℕ) → c < n → map_bits h c (n - c) ≡ map_bit h c ∷ map_bits h (c + 1) (n - (c + 1))
   bits_at c l = let e : n - c ≡ suc (n - (c + 1)) = omega arith in rw e
 
+  -- what is left and what it is given, with the bit of chunk c first
+  fits_at : (c i y : ℕ) (x : Bool) → c < n → map_bit h c ≡ x → (s : Stands c i y) → Fit (drop i ds) s.before (x ∷ map_bits h (c + 1) (n - (c + 1)))
+  fits_at c i y x l t s = rw (bits_at c l, t) at s.fits
+
+  gives_at : (c i y : ℕ) (x : Bool) → c < n → map_bit h c ≡ x → Stands c i y → drop (128 * c) given ≡ cover (x ∷ map_bits h (c + 1) (n - (c + 1))) (drop y (joined (drop i ds)))
+  gives_at c i y x l t s = s.gives ∙ ap (λ (bs : List Bool). cover bs (drop y (joined (drop i ds)))) (bits_at c l ∙ ap (λ (b : Bool). b ∷ map_bits h (c + 1) (n - (c + 1))) t)
+
+  -- the region that the walk stands in
+  front_is : (i : ℕ) → get_or (drop i ds) 0 [] ≡ get_or ds i []
+  front_is i = let z : i + 0 ≡ i = omega arith in get_or-drop i ds 0 [] ∙ ap (λ x. get_or ds x []) z
+
   room_at : (c i y : ℕ) → c < n → map_bit h c ≡ true → Stands c i y → y + 128 ≤ length (get_or (drop i ds) 0 [])
   room_at c i y l t s =
-      let f : Fit (drop i ds) s.before (true ∷ map_bits h (c + 1) (n - (c + 1))) = rw (bits_at c l, t) at s.fits in
-      let r = first_room (map_bits h (c + 1) (n - (c + 1))) s.before (drop i ds) f in
-      let q = s.size in
-      omega arith
+      let r = first_room (map_bits h (c + 1) (n - (c + 1))) s.before (drop i ds) (fits_at c i y true l t s) in
+      omega (arith, s.size)
 
   data_long : (c i y : ℕ) → c < n → map_bit h c ≡ true → Stands c i y → 128 ≤ length (drop y (joined (drop i ds)))
   data_long c i y l t s = let r = room_at c i y l t s in let j = joined_long (drop i ds) in let d = length-drop y (joined (drop i ds)) in omega arith
@@ -111,14 +112,11 @@ module _ (h : List ℕ) (n : ℕ) (ds : List (List ℕ)) (fit : regions_fit (map
   stands_set c i y l t s =
       let bs = map_bits h (c + 1) (n - (c + 1)) in
       let d = drop y (joined (drop i ds)) in
-      let f : Fit (drop i ds) s.before (true ∷ bs) = rw (bits_at c l, t) at s.fits in
-      let g : drop (128 * c) given ≡ cover (true ∷ bs) d = s.gives ∙ ap (λ (x : List Bool). cover x d) (bits_at c l) ∙ ap (λ (x : Bool). cover (x ∷ bs) d) t in
-      let q = s.size in
       record {
         before = suc s.before;
-        size = omega arith;
-        fits = f;
-        gives = rest_on c (cover (true ∷ bs) d) g ∙ past_set bs d (data_long c i y l t s) ∙ ap (cover bs) (drop-drop 128 y (joined (drop i ds)));
+        size = omega (arith, s.size);
+        fits = fits_at c i y true l t s;
+        gives = rest_on c (cover (true ∷ bs) d) (gives_at c i y true l t s) ∙ past_set bs d (data_long c i y l t s) ∙ ap (cover bs) (drop-drop 128 y (joined (drop i ds)));
       }
 
   abbrev StandsAt : ℕ → Cursor → Type 0
@@ -155,11 +153,9 @@ module _ (h : List ℕ) (n : ℕ) (ds : List (List ℕ)) (fit : regions_fit (map
       let at = cursor h c in
       let s = stands c (omega arith) in
       let e : c + 1 ≡ suc c = omega arith in
-      let bs = map_bits h (c + 1) (n - (c + 1)) in
-      let d = drop at.byte (joined (drop at.region ds)) in
       let next : StandsAt (c + 1) (moved (map_bit h c) at) = elim (cases_Bool (map_bit h c)) [
         | inl t ↦ rw t (stands_set c at.region at.byte k t s)
-        | inr t ↦ rw t (stands_clear c at s.before k s.size (rw (bits_at c k, t) at s.fits) (s.gives ∙ ap (λ (x : List Bool). cover x d) (bits_at c k) ∙ ap (λ (x : Bool). cover (x ∷ bs) d) t))
+        | inr t ↦ rw t (stands_clear c at s.before k s.size (fits_at c at.region at.byte false k t s) (gives_at c at.region at.byte false k t s))
       ] in
       subst (λ x. StandsAt x (moved (map_bit h c) at)) e next
 
@@ -168,29 +164,21 @@ module _ (h : List ℕ) (n : ℕ) (ds : List (List ℕ)) (fit : regions_fit (map
   chunk_room c l t =
       let i = (cursor h c).region in
       let r = room_at c i (cursor h c).byte l t (stands c (omega arith)) in
-      let g = get_or-drop i ds 0 [] in
-      let z : i + 0 ≡ i = omega arith in
-      let q : length (get_or (drop i ds) 0 []) ≡ length (get_or ds i []) = ap length (g ∙ ap (λ x. get_or ds x []) z) in
-      omega arith
+      let q = ap length (front_is i) in
+      omega (arith, q)
 
   pub chunk_set : (c : ℕ) → c < n → map_bit h c ≡ true → (o : ℕ) → o < 128 → get_or given (128 * c + o) None ≡ Some (get_or (get_or ds (cursor h c).region []) ((cursor h c).byte + o) 0)
   chunk_set c l t o k =
       let i = (cursor h c).region in
       let y = (cursor h c).byte in
       let s = stands c (omega arith) in
-      let es = drop i ds in
-      let bs = map_bits h (c + 1) (n - (c + 1)) in
-      let d = drop y (joined es) in
-      let g : drop (128 * c) given ≡ cover (true ∷ bs) d = s.gives ∙ ap (λ (x : List Bool). cover x d) (bits_at c l) ∙ ap (λ (x : Bool). cover (x ∷ bs) d) t in
+      let d = drop y (joined (drop i ds)) in
       let r = room_at c i y l t s in
-      let z : i + 0 ≡ i = omega arith in
-      sym (get_or-drop (128 * c) given o None) ∙ ap (λ (x : List (Option ℕ)). get_or x o None) g ∙ at_set bs d o k (data_long c i y l t s)
-      ∙ ap (λ (x : ℕ). Some x) (get_or-drop y (joined es) o 0 ∙ joined_first es (y + o) (omega arith) ∙ ap (λ (x : List ℕ). get_or x (y + o) 0) (get_or-drop i ds 0 [] ∙ ap (λ x. get_or ds x []) z))
+      sym (get_or-drop (128 * c) given o None) ∙ ap (λ (x : List (Option ℕ)). get_or x o None) (gives_at c i y true l t s) ∙ at_set (map_bits h (c + 1) (n - (c + 1))) d o k (data_long c i y l t s)
+      ∙ ap (λ (x : ℕ). Some x) (get_or-drop y (joined (drop i ds)) o 0 ∙ joined_first (drop i ds) (y + o) (omega arith) ∙ ap (λ (x : List ℕ). get_or x (y + o) 0) (front_is i))
 
   pub chunk_clear : (c : ℕ) → c < n → map_bit h c ≡ false → (o : ℕ) → o < 128 → get_or given (128 * c + o) None ≡ None
   chunk_clear c l t o k =
-      let s = stands c (omega arith) in
-      let bs = map_bits h (c + 1) (n - (c + 1)) in
-      let d = drop (cursor h c).byte (joined (drop (cursor h c).region ds)) in
-      let g : drop (128 * c) given ≡ cover (false ∷ bs) d = s.gives ∙ ap (λ (x : List Bool). cover x d) (bits_at c l) ∙ ap (λ (x : Bool). cover (x ∷ bs) d) t in
-      sym (get_or-drop (128 * c) given o None) ∙ ap (λ (x : List (Option ℕ)). get_or x o None) g ∙ at_clear bs d o k
+      let at = cursor h c in
+      sym (get_or-drop (128 * c) given o None) ∙ ap (λ (x : List (Option ℕ)). get_or x o None) (gives_at c at.region at.byte false l t (stands c (omega arith)))
+      ∙ at_clear (map_bits h (c + 1) (n - (c + 1))) (drop at.byte (joined (drop at.region ds))) o k

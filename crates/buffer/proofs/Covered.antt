@@ -1,7 +1,7 @@
 -- Which sectors of its range a patch covers. Assumes nothing.
 use Rattle.std.proofs.Common.{◌≡◌, ℕ, zero, suc, ◌+◌, ◌-◌, ◌*◌, ◌/◌, ◌%◌, ◌<◌, ◌≤◌, true, false, not, List, [], ◌∷◌, length, get_or, take, drop, Some, None, Option, sym, refl, ap, ◌∙◌, inl, inr, arith}
 use Rattle.std.proofs.lemmas.List.{get_or-take, get_or-drop, length-take, drop_all}
-use Rattle.std.proofs.lemmas.Bool.{cases_Bool, cases_eq, both_ways}
+use Rattle.std.proofs.lemmas.Bool.{cases_Bool}
 use Rattle.codec.specs.Fields.{joined}
 use Rattle.keys.specs.declared.patch.PatchKey.{PatchKey}
 use Rattle.item.specs.Meaning.{Meaning}
@@ -12,41 +12,34 @@ use Rattle.buffer.specs.Walk.{cursor}
 use Rattle.buffer.proofs.Chunks.{chunk_set, chunk_clear}
 
 gives_some : (os : List (Option ℕ)) (o v : ℕ) → get_or os o None ≡ Some v → gives_any os ≡ true
-gives_some [] o v e = let z : ◌≡◌ {A = ℕ} 0 1 = cc in absurd (let f : ⊥ = omega arith in f)
+gives_some [] o v e = cc
 gives_some (Some w ∷ os) o v e = refl
-gives_some (None ∷ os) zero v e = let z : ◌≡◌ {A = ℕ} 0 1 = cc in absurd (let f : ⊥ = omega arith in f)
+gives_some (None ∷ os) zero v e = cc
 gives_some (None ∷ os) (suc o) v e = gives_some os o v e
 
 gives_none : (os : List (Option ℕ)) → ((o : ℕ) → o < length os → get_or os o None ≡ None) → gives_any os ≡ false
 gives_none [] z = refl
 gives_none (None ∷ os) z = gives_none os (λ o l. z (suc o) (omega arith))
-gives_none (Some w ∷ os) z = let e : Some w ≡ None = z 0 (omega arith) in let q : ◌≡◌ {A = ℕ} 0 1 = cc in absurd (let f : ⊥ = omega arith in f)
+gives_none (Some w ∷ os) z = let e : Some w ≡ None = z 0 (omega arith) in cc
 
 -- a sector's part of a cover
-pub sector_at : (c : List (Option ℕ)) (j o : ℕ) → o < 512 → get_or (cover_of c j) o None ≡ get_or c (512 * j + o) None
+sector_at : (c : List (Option ℕ)) (j o : ℕ) → o < 512 → get_or (cover_of c j) o None ≡ get_or c (512 * j + o) None
 sector_at c j o l = get_or-take 512 (drop (512 * j) c) o None l ∙ get_or-drop (512 * j) c o None
 
+-- chunk i of it
+pub sector_chunk : (c : List (Option ℕ)) (k i o : ℕ) → i < 4 → o < 128 → get_or (cover_of c k) (128 * i + o) None ≡ get_or c (128 * (4 * k + i) + o) None
+sector_chunk c k i o l h = let x : 512 * k + (128 * i + o) ≡ 128 * (4 * k + i) + o = omega arith in sector_at c k (128 * i + o) (omega arith) ∙ ap (λ (y : ℕ). get_or c y None) x
+
 none_means : (h : List ℕ) (b m : ℕ) → none_set (map_bits h b m) ≡ true → (k : ℕ) → b ≤ k → k < b + m → map_bit h k ≡ false
-none_means h b zero e k x y = absurd (let f : ⊥ = omega arith in f)
-none_means h b (suc m) e k x y =
-    elim (cases_Bool (map_bit h b)) [
-      | inl t ↦ (let q : false ≡ true = rw t at e in absurd (both_ways false refl q))
-      | inr t ↦ elim (cases_eq b k) [
-        | inl q ↦ ap (map_bit h) (sym q) ∙ t
-        | inr q ↦ (let r : none_set (map_bits h (b + 1) m) ≡ true = rw t at e in none_means h (b + 1) m r k (omega arith) (omega arith))
-      ]
-    ]
+none_means h b zero e k x y = absurd (omega arith)
+none_means h b (suc m) e k x y = grind (arith, none_means h (b + 1) m)
 
 some_means : (h : List ℕ) (b m : ℕ) → none_set (map_bits h b m) ≡ false → (k : ℕ) × (b ≤ k) × (k < b + m) × (map_bit h k ≡ true)
-some_means h b zero e = absurd (both_ways true e refl)
+some_means h b zero e = cc
 some_means h b (suc m) e =
     elim (cases_Bool (map_bit h b)) [
       | inl t ↦ (b, omega arith, omega arith, t)
-      | inr t ↦ (let r : none_set (map_bits h (b + 1) m) ≡ false = rw t at e in
-          let w = some_means h (b + 1) m r in
-          let x : b + 1 ≤ w.0 = w.1 in
-          let y : w.0 < (b + 1) + m = w.2 in
-          (w.0, omega arith, omega arith, w.3))
+      | inr t ↦ (let w = some_means h (b + 1) m (rw t at e) in (w.0, omega (arith, w.1), omega (arith, w.2), w.3))
     ]
 
 module _ (rs : List (List ℕ)) (key : PatchKey) (w : Patched rs key) (j : ℕ) where

@@ -1,23 +1,22 @@
 -- Chunk after chunk laid over a sector. Assumes nothing.
-use Rattle.std.proofs.Common.{◌≡◌, ℕ, zero, suc, ◌+◌, ◌-◌, ◌*◌, ◌<◌, ◌≤◌, Bool, true, false, cond, eqb, ltb, List, [], ◌∷◌, length, get_or, drop, Some, None, Option, sym, refl, ap, ◌∙◌, subst, inl, inr, arith}
+use Rattle.std.proofs.Common.{◌≡◌, ℕ, zero, suc, ◌+◌, ◌-◌, ◌*◌, ◌<◌, ◌≤◌, Bool, true, false, cond, ltb, List, [], ◌∷◌, length, get_or, Some, None, Option, sym, refl, ap, ◌∙◌, subst, arith}
 use Rattle.std.proofs.lemmas.List.{ext_get_or}
-use Rattle.std.proofs.lemmas.Bool.{cases_lt, cases_Bool, lt-ltb, le-ltb}
+use Rattle.std.proofs.lemmas.Bool.Decides.{nat_tests}
 use Rattle.codec.specs.Fields.{joined}
 use Rattle.keys.specs.declared.patch.PatchKey.{PatchKey}
 use Rattle.item.specs.Meaning.{Meaning}
-use Rattle.item.specs.Buffer.{map_bit, map_bits, regions_fit, cover, buffer_length, buffer_meaning}
+use Rattle.item.specs.Buffer.{map_bit, map_bits, regions_fit, cover, buffer_meaning}
 use Rattle.item.specs.Covers.{cover_of, give, overlay, laid}
 use Rattle.item.specs.Whole.{Patched}
 use Rattle.buffer.specs.Walk.{moved, cursor}
 use Rattle.buffer.specs.declared.cursor.Cursor.{Cursor}
 use Rattle.buffer.proofs.Chunks.{chunk_room, chunk_set, chunk_clear}
-use Rattle.buffer.proofs.Covered.{sector_at, past}
+use Rattle.buffer.proofs.Covered.{sector_chunk, past}
 
 -- The walk goes by one region or 128 bytes at most.
 
-moved_small : (x : Bool) (c : Cursor) → ((moved x c).region ≤ c.region + 1) × ((moved x c).byte ≤ c.byte + 128)
-moved_small true c = (omega arith, omega arith)
-moved_small false c = elim (cases_Bool (eqb c.byte 0)) [ inl e ↦ rw e (omega arith, omega arith) | inr e ↦ rw e (omega arith, omega arith) ]
+pub moved_small : (x : Bool) (c : Cursor) → ((moved x c).region ≤ c.region + 1) × ((moved x c).byte ≤ c.byte + 128)
+moved_small x c = grind (arith, nat_tests)
 
 cursor_small : (h : List ℕ) (k : ℕ) → ((cursor h k).region ≤ k) × ((cursor h k).byte ≤ 128 * k)
 cursor_small h zero = (omega arith, omega arith)
@@ -44,7 +43,7 @@ length_overlay [] (b ∷ bs) = refl
 length_overlay (o ∷ os) (b ∷ bs) = ap suc (length_overlay os bs)
 
 overlay_at : (os : List (Option ℕ)) (b : List ℕ) (o : ℕ) → o < length b → get_or (overlay os b) o 0 ≡ give (get_or os o None) (get_or b o 0)
-overlay_at os [] o h = absurd (let f : ⊥ = omega arith in f)
+overlay_at os [] o h = absurd (omega arith)
 overlay_at [] (b ∷ bs) o h = refl
 overlay_at (v ∷ os) (b ∷ bs) zero h = refl
 overlay_at (v ∷ os) (b ∷ bs) (suc o) h = overlay_at os bs o (omega arith)
@@ -57,46 +56,24 @@ overlay_none (b ∷ bs) = refl
 abbrev pub Laid : List (Option ℕ) → List ℕ → List ℕ → ℕ → Type 0
 Laid os xs ys m = (j : ℕ) → get_or ys j 0 ≡ cond (ltb j m) (give (get_or os j None) (get_or xs j 0)) (get_or xs j 0)
 
-pub laid_none : (os : List (Option ℕ)) (xs : List ℕ) → Laid os xs xs 0
-laid_none os xs j = let e : ltb j 0 ≡ false = le-ltb j 0 (omega arith) in rw e
-
 pub laid_all : (os : List (Option ℕ)) (xs ys : List ℕ) (m : ℕ) → length ys ≡ length xs → length xs ≤ m → Laid os xs ys m → ys ≡ overlay os xs
-laid_all os xs ys m l h g =
-    ext_get_or 0 ys (overlay os xs) (l ∙ sym (length_overlay os xs)) (λ j a.
-    let k : j < length xs = omega arith in
-    let e : ltb j m ≡ true = lt-ltb j m (omega arith) in
-    g j ∙ rw e (sym (overlay_at os xs j k)))
+laid_all os xs ys m l h g = ext_get_or 0 ys (overlay os xs) (l ∙ sym (length_overlay os xs)) (λ j a. let q = g j in let o = overlay_at os xs j (omega arith) in grind (arith, nat_tests))
 
 -- a chunk that is not set
 skip_chunk : (os : List (Option ℕ)) (xs ys : List ℕ) (m : ℕ) → Laid os xs ys m → ((j : ℕ) → j < 128 → get_or os (m + j) None ≡ None) → Laid os xs ys (m + 128)
-skip_chunk os xs ys m g z j =
-    elim (cases_lt j m) [
-      | inl a ↦ (let d : ltb j m ≡ true = lt-ltb j m a in let e : ltb j (m + 128) ≡ true = lt-ltb j (m + 128) (omega arith) in g j ∙ rw (d, e))
-      | inr a ↦ elim (cases_lt j (m + 128)) [
-        | inl b ↦ (let d : ltb j m ≡ false = le-ltb j m a in
-            let e : ltb j (m + 128) ≡ true = lt-ltb j (m + 128) b in
-            let q : m + (j - m) ≡ j = omega arith in
-            let n : get_or os j None ≡ None = ap (λ (x : ℕ). get_or os x None) (sym q) ∙ z (j - m) (omega arith) in
-            g j ∙ rw (d, e, n))
-        | inr b ↦ (let d : ltb j m ≡ false = le-ltb j m a in let e : ltb j (m + 128) ≡ false = le-ltb j (m + 128) b in g j ∙ rw (d, e))
-      ]
-    ]
+skip_chunk os xs ys m g z j = let q = g j in let n = z (j - m) in let w : m + (j - m) ≡ cond (ltb j m) m j = grind (arith, nat_tests) in grind (arith, nat_tests)
 
 -- a chunk that is set: v j is its byte j
 set_chunk : (os : List (Option ℕ)) (xs ys zs : List ℕ) (m : ℕ) (v : ℕ → ℕ) → Laid os xs ys m → ((j : ℕ) → j < 128 → get_or os (m + j) None ≡ Some (v j)) → ((j : ℕ) → j < 128 → get_or zs (m + j) 0 ≡ v j)
     → ((j : ℕ) → j < m → get_or zs j 0 ≡ get_or ys j 0) → ((j : ℕ) → m + 128 ≤ j → get_or zs j 0 ≡ get_or ys j 0) → Laid os xs zs (m + 128)
 set_chunk os xs ys zs m v g s inside before behind j =
-    elim (cases_lt j m) [
-      | inl a ↦ (let d : ltb j m ≡ true = lt-ltb j m a in let e : ltb j (m + 128) ≡ true = lt-ltb j (m + 128) (omega arith) in before j a ∙ g j ∙ rw (d, e))
-      | inr a ↦ elim (cases_lt j (m + 128)) [
-        | inl b ↦ (let q : m + (j - m) ≡ j = omega arith in
-            let l : j - m < 128 = omega arith in
-            let e : ltb j (m + 128) ≡ true = lt-ltb j (m + 128) b in
-            let n : get_or os j None ≡ Some (v (j - m)) = ap (λ (x : ℕ). get_or os x None) (sym q) ∙ s (j - m) l in
-            ap (λ x. get_or zs x 0) (sym q) ∙ inside (j - m) l ∙ rw (e, n))
-        | inr b ↦ (let d : ltb j m ≡ false = le-ltb j m a in let e : ltb j (m + 128) ≡ false = le-ltb j (m + 128) b in behind j b ∙ g j ∙ rw (d, e))
-      ]
-    ]
+    let q = g j in
+    let n = s (j - m) in
+    let i = inside (j - m) in
+    let b = before j in
+    let e = behind j in
+    let w : m + (j - m) ≡ cond (ltb j m) m j = grind (arith, nat_tests) in
+    grind (arith, nat_tests)
 
 -- A turn of the loop over the chunks of sector k: chunk i, where the walk stands at `at`.
 module _ (h : List ℕ) (n : ℕ) (ds : List (List ℕ)) (fit : regions_fit (map_bits h 0 n) ds ≡ true) (k i : ℕ) (low : i < 4) (in-range : 4 * k + 4 ≤ n) (at : Cursor) (here : at ≡ cursor h (4 * k + i)) where
@@ -122,9 +99,7 @@ module _ (h : List ℕ) (n : ℕ) (ds : List (List ℕ)) (fit : regions_fit (map
       let c = cursor h (4 * k + i) in
       let b = get_or ds c.region [] in
       let given : (j : ℕ) → j < 128 → get_or sector_cover (128 * i + j) None ≡ Some (get_or b (c.byte + j) 0) = λ j l.
-      let x : 512 * k + (128 * i + j) ≡ 128 * (4 * k + i) + j = omega arith in
-      sector_at (cover (map_bits h 0 n) (joined ds)) k (128 * i + j) (omega arith)
-      ∙ ap (λ (y : ℕ). get_or (cover (map_bits h 0 n) (joined ds)) y None) x ∙ chunk_set h n ds fit (4 * k + i) (omega arith) t j l in
+      sector_chunk (cover (map_bits h 0 n) (joined ds)) k i j low l ∙ chunk_set h n ds fit (4 * k + i) (omega arith) t j l in
       let one : (j : ℕ) → j < 128 → get_or zs (128 * i + j) 0 ≡ get_or b (c.byte + j) 0 = λ j l. inside j l ∙ ap (λ (x : List ℕ). get_or x (at.byte + j) 0) (region_is d e) ∙ ap (λ (x : Cursor). get_or b (x.byte + j) 0) here in
       subst (λ m. Laid sector_cover xs zs m) q (set_chunk sector_cover xs ys zs (128 * i) (λ j. get_or b (c.byte + j) 0) g given one before behind)
 
@@ -132,26 +107,10 @@ module _ (h : List ℕ) (n : ℕ) (ds : List (List ℕ)) (fit : regions_fit (map
   turn_clear xs ys zs t e g =
       let q : 128 * i + 128 ≡ 128 * (i + 1) = omega arith in
       let given : (j : ℕ) → j < 128 → get_or sector_cover (128 * i + j) None ≡ None = λ j l.
-      let x : 512 * k + (128 * i + j) ≡ 128 * (4 * k + i) + j = omega arith in
-      sector_at (cover (map_bits h 0 n) (joined ds)) k (128 * i + j) (omega arith)
-      ∙ ap (λ (y : ℕ). get_or (cover (map_bits h 0 n) (joined ds)) y None) x ∙ chunk_clear h n ds fit (4 * k + i) (omega arith) t j l in
+      sector_chunk (cover (map_bits h 0 n) (joined ds)) k i j low l ∙ chunk_clear h n ds fit (4 * k + i) (omega arith) t j l in
       let r = skip_chunk sector_cover xs ys (128 * i) g given in
       subst (λ m. Laid sector_cover xs zs m) q (subst (λ (us : List ℕ). Laid sector_cover xs us (128 * i + 128)) (sym e) r)
 
 -- past the range nothing is laid
 pub laid_past : (rs : List (List ℕ)) (key : PatchKey) (k : ℕ) (xs : List ℕ) → Patched rs key → key.length ≤ k → xs ≡ laid (buffer_meaning rs) k xs
 laid_past rs key k xs w l = sym (ap (λ (m : Meaning). laid m k xs) w.meaning ∙ ap (λ (os : List (Option ℕ)). overlay os xs) (past rs key w k l) ∙ overlay_none xs)
-
--- within it what the loop leaves is laid
-pub laid_in : (rs : List (List ℕ)) (key : PatchKey) (k : ℕ) (xs ys h : List ℕ) → Patched rs key → h ≡ get_or rs 0 [] → ys ≡ overlay (cover_of (cover (map_bits h 0 (4 * key.length)) (joined (drop 1 rs))) k) xs → ys ≡ laid (buffer_meaning rs) k xs
-laid_in rs key k xs ys h w e q =
-    let n : 4 * key.length ≡ 4 * buffer_length (get_or rs 0 []) = ap (λ (x : PatchKey). 4 * x.length) (sym w.key) in
-    q ∙ ap (λ (z : List ℕ). overlay (cover_of (cover (map_bits z 0 (4 * key.length)) (joined (drop 1 rs))) k) xs) e
-    ∙ ap (λ (m : ℕ). overlay (cover_of (cover (map_bits (get_or rs 0 []) 0 m) (joined (drop 1 rs))) k) xs) n
-    ∙ sym (ap (λ (m : Meaning). laid m k xs) w.meaning)
-
--- the regions fit the map as the code reads it
-pub fit_in : (rs : List (List ℕ)) (key : PatchKey) (h : List ℕ) → Patched rs key → h ≡ get_or rs 0 [] → regions_fit (map_bits h 0 (4 * key.length)) (drop 1 rs) ≡ true
-fit_in rs key h w e =
-    let n : 4 * key.length ≡ 4 * buffer_length (get_or rs 0 []) = ap (λ (x : PatchKey). 4 * x.length) (sym w.key) in
-    ap (λ (z : List ℕ). regions_fit (map_bits z 0 (4 * key.length)) (drop 1 rs)) e ∙ ap (λ (m : ℕ). regions_fit (map_bits (get_or rs 0 []) 0 m) (drop 1 rs)) n ∙ w.fitting

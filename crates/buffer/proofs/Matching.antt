@@ -1,9 +1,10 @@
 -- Bits of a map, its runs, and regions matched to them one after the other. Assumes nothing.
 use Rattle.std.proofs.Common.{◌≡◌, ℕ, zero, suc, ◌+◌, ◌-◌, ◌*◌, ◌<◌, ◌≤◌, Bool, true, false, ◌&&◌, eqb, List, [], ◌∷◌, map, length, get_or, drop, sym, refl, ap, ◌∙◌, inl, inr, arith}
 use Rattle.std.proofs.lemmas.List.{length-map, get_or-map, drop_all, drop_more}
+use Rattle.std.proofs.lemmas.Grind.{common_steps}
 use Rattle.std.proofs.lemmas.Bool.{cases_lt, cases_eq, eq-eqb, ne_eqb, both_ways}
 use Rattle.codec.specs.Fields.{same}
-use Rattle.item.specs.Buffer.{map_bit, map_bits, runs, regions_fit}
+use Rattle.item.specs.Buffer.{map_bit, map_bits, runs}
 use Rattle.item.specs.Whole.{length_bits}
 use Rattle.item.specs.Regions.{region, regions}
 use Rattle.item.specs.declared.place.Place.{Place}
@@ -17,102 +18,69 @@ some_run t (false ∷ bs) = refl
 
 module _ (h : List ℕ) where
   -- bits from a place on
-  pub drop_bits : (j b m : ℕ) → drop j (map_bits h b (j + m)) ≡ map_bits h (b + j) m
-  drop_bits zero b m = let e : 0 + m ≡ m = omega arith in let f : b + 0 ≡ b = omega arith in rw (e, f)
-  drop_bits (suc j) b m =
-      let e : suc j + m ≡ suc (j + m) = omega arith in
-      let f : b + suc j ≡ (b + 1) + j = omega arith in
-      rw (e, f) (drop_bits j (b + 1) m)
+  drop_bits : (j b m : ℕ) → drop j (map_bits h b (j + m)) ≡ map_bits h (b + j) m
+  drop_bits zero b m = grind arith
+  drop_bits (suc j) b m = let e : suc j + m ≡ suc (j + m) = omega arith in grind (arith, drop_bits j (b + 1) m)
 
   pub bits_beyond : (n m : ℕ) → map_bits h n (m - n) ≡ drop n (map_bits h 0 m)
-  bits_beyond n m =
-      elim (cases_lt m n) [
-        | inl l ↦ (let e : m - n ≡ 0 = omega arith in let k : length (map_bits h 0 m) ≤ n = let q = length_bits h 0 m in omega arith in rw e (sym (drop_all n (map_bits h 0 m) k)))
-        | inr l ↦ (let e : n + (m - n) ≡ m = omega arith in let f : 0 + n ≡ n = omega arith in sym (ap (λ a. drop n (map_bits h 0 a)) (sym e) ∙ drop_bits n 0 (m - n) ∙ ap (λ a. map_bits h a (m - n)) f))
-      ]
+  bits_beyond n m = grind (arith, common_steps, drop_bits n 0 (m - n), length_bits)
 
   -- bits that are not set are before the runs; bits that are set lengthen the first one
   clear_by : (j b m : ℕ) → ((k : ℕ) → b ≤ k → k < b + j → map_bit h k ≡ false) → runs 0 (map_bits h b (j + m)) ≡ runs 0 (map_bits h (b + j) m)
-  clear_by zero b m z = let e : 0 + m ≡ m = omega arith in let f : b + 0 ≡ b = omega arith in rw (e, f)
+  clear_by zero b m z = grind arith
   clear_by (suc j) b m z =
       let e : suc j + m ≡ suc (j + m) = omega arith in
-      let f : b + suc j ≡ (b + 1) + j = omega arith in
-      let t : map_bit h b ≡ false = z b (omega arith) (omega arith) in
-      rw (e, f, t) (clear_by j (b + 1) m (λ k x y. z k (omega arith) (omega arith)))
+      let t = z b (omega arith) (omega arith) in
+      grind (arith, clear_by j (b + 1) m (λ k x y. z k (omega arith) (omega arith)))
 
   set_by : (j b m t : ℕ) → ((k : ℕ) → b ≤ k → k < b + j → map_bit h k ≡ true) → runs t (map_bits h b (j + m)) ≡ runs (t + j) (map_bits h (b + j) m)
-  set_by zero b m t z = let e : 0 + m ≡ m = omega arith in let f : b + 0 ≡ b = omega arith in let g : t + 0 ≡ t = omega arith in rw (e, f, g)
+  set_by zero b m t z = grind arith
   set_by (suc j) b m t z =
       let e : suc j + m ≡ suc (j + m) = omega arith in
-      let f : b + suc j ≡ (b + 1) + j = omega arith in
-      let g : t + suc j ≡ suc t + j = omega arith in
-      let s : map_bit h b ≡ true = z b (omega arith) (omega arith) in
-      rw (e, f, g, s) (set_by j (b + 1) m (suc t) (λ k x y. z k (omega arith) (omega arith)))
+      let s = z b (omega arith) (omega arith) in
+      grind (arith, set_by j (b + 1) m (suc t) (λ k x y. z k (omega arith) (omega arith)))
 
   -- a run ends where a bit is not set, or no more bits are
   run_ends : (t e m : ℕ) → (0 < m → map_bit h e ≡ false) → runs (suc t) (map_bits h e m) ≡ suc t ∷ runs 0 (map_bits h e m)
   run_ends t e zero z = refl
-  run_ends t e (suc m) z = let s : map_bit h e ≡ false = z (omega arith) in rw s
+  run_ends t e (suc m) z = grind (arith, z)
 
   -- the runs from the next set bit on
-  pub runs_clear : (n b f : ℕ) → FirstSet h n b f → runs 0 (map_bits h b (n - b)) ≡ runs 0 (map_bits h f (n - f))
-  runs_clear n b f first =
-      let x = first.0 in
-      let y = first.1 in
-      let e : n - b ≡ (f - b) + (n - f) = omega arith in
-      let g : b + (f - b) ≡ f = omega arith in
-      ap (λ m. runs 0 (map_bits h b m)) e ∙ clear_by (f - b) b (n - f) (λ k p q. first.2 k p (omega arith)) ∙ ap (λ a. runs 0 (map_bits h a (n - f))) g
+  runs_clear : (n b f : ℕ) → FirstSet h n b f → runs 0 (map_bits h b (n - b)) ≡ runs 0 (map_bits h f (n - f))
+  runs_clear n b f first = grind (arith, clear_by (f - b) b (n - f) (λ k p q. first.2 k p (omega (arith, first.0))), first.0, first.1)
 
-  pub runs_set : (n f e : ℕ) → f < n → map_bit h f ≡ true → RunTo h n f e → runs 0 (map_bits h f (n - f)) ≡ (e - f) ∷ runs 0 (map_bits h e (n - e))
+  runs_set : (n f e : ℕ) → f < n → map_bit h f ≡ true → RunTo h n f e → runs 0 (map_bits h f (n - f)) ≡ (e - f) ∷ runs 0 (map_bits h e (n - e))
   runs_set n f e l t run =
-      let x = run.0 in
-      let y = run.1 in
-      let long : f < e = elim (cases_lt f e) [ inl q ↦ q | inr q ↦ (let z : e ≡ f = omega arith in absurd (both_ways (map_bit h f) (ap (map_bit h) (sym z) ∙ run.3 (omega arith)) t)) ] in
-      let a : n - f ≡ (e - f) + (n - e) = omega arith in
-      let g : f + (e - f) ≡ e = omega arith in
-      let s : 0 + (e - f) ≡ suc (e - f - 1) = omega arith in
-      let s' : e - f ≡ suc (e - f - 1) = omega arith in
-      ap (λ m. runs 0 (map_bits h f m)) a ∙ set_by (e - f) f (n - e) 0 (λ k p q. run.2 k p (omega arith)) ∙ ap (λ b. runs (0 + (e - f)) (map_bits h b (n - e))) g
-      ∙ ap (λ w. runs w (map_bits h e (n - e))) s ∙ run_ends (e - f - 1) e (n - e) (λ p. run.3 (omega arith)) ∙ ap (λ w. w ∷ runs 0 (map_bits h e (n - e))) (sym s')
+      let long : f < e = elim (cases_lt f e) [ inl q ↦ q | inr q ↦ (let z : e ≡ f = omega (arith, run.0) in absurd (both_ways (map_bit h f) (ap (map_bit h) (sym z) ∙ run.3 (omega arith)) t)) ] in
+      let s = set_by (e - f) f (n - e) 0 (λ k p q. run.2 k p (omega (arith, run.0))) in
+      let r = run_ends (e - f - 1) e (n - e) (λ p. run.3 (omega arith)) in
+      grind (arith, s, r, run.0, run.1)
 
   -- whether the data regions from number i on fit the runs from bit b on
   abbrev pub left : ℕ → List (List ℕ) → ℕ → ℕ → Bool
   left n ds i b = same (map length (drop i ds)) (map (λ (x : ℕ). 128 * x) (runs 0 (map_bits h b (n - b))))
 
-  pub left_all : (n : ℕ) (ds : List (List ℕ)) → left n ds 0 0 ≡ regions_fit (map_bits h 0 n) ds
-  left_all n ds = let e : n - 0 ≡ n = omega arith in rw e
-
   module _ (n : ℕ) (ds : List (List ℕ)) (i b f : ℕ) (first : FirstSet h n b f) where
-    left_first : left n ds i b ≡ left n ds i f
-    left_first = ap (λ (rs : List ℕ). same (map length (drop i ds)) (map (λ (x : ℕ). 128 * x) rs)) (runs_clear n b f first)
-
-    no_runs : f ≡ n → runs 0 (map_bits h f (n - f)) ≡ []
-    no_runs e = let z : n - f ≡ 0 = omega arith in rw z
-
     -- a region, and no run for it
     pub left_none : f ≡ n → i < length ds → left n ds i b ≡ false
-    left_none e l =
-        left_first ∙ ap (λ (rs : List ℕ). same (map length (drop i ds)) (map (λ (x : ℕ). 128 * x) rs)) (no_runs e)
-        ∙ ap (λ (es : List (List ℕ)). same (map length es) []) (drop_more ds i [] l)
+    left_none e l = let r = runs_clear n b f first in let z : n - f ≡ 0 = omega arith in let d = drop_more ds i [] l in rw (r, z, d)
 
     -- a region, and a run
-    pub left_run : (e : ℕ) → f < n → RunTo h n f e → i < length ds → left n ds i b ≡ (eqb (length (get_or ds i [])) (128 * (e - f)) && left n ds (i + 1) e)
-    left_run e l run k =
-        left_first ∙ ap (λ (rs : List ℕ). same (map length (drop i ds)) (map (λ (x : ℕ). 128 * x) rs)) (runs_set n f e l (first.3 l) run)
-        ∙ ap (λ (es : List (List ℕ)). same (map length es) (map (λ (x : ℕ). 128 * x) ((e - f) ∷ runs 0 (map_bits h e (n - e))))) (drop_more ds i [] k)
+    left_run : (e : ℕ) → f < n → RunTo h n f e → i < length ds → left n ds i b ≡ (eqb (length (get_or ds i [])) (128 * (e - f)) && left n ds (i + 1) e)
+    left_run e l run k = let r = runs_clear n b f first in let s = runs_set n f e l (first.3 l) run in let d = drop_more ds i [] k in rw (r, s, d)
 
     -- no region: there is to be no run
     pub left_end : length ds ≤ i → left n ds i b ≡ eqb f n
     left_end l =
-        left_first ∙ ap (λ (es : List (List ℕ)). same (map length es) (map (λ (x : ℕ). 128 * x) (runs 0 (map_bits h f (n - f))))) (drop_all i ds l)
-        ∙ elim (cases_eq f n) [
-          | inl q ↦ ap (λ (rs : List ℕ). same [] (map (λ (x : ℕ). 128 * x) rs)) (no_runs q) ∙ sym (eq-eqb f n q)
-          | inr q ↦ (let y = first.1 in
-              let k : f < n = omega arith in
-              let m : n - f ≡ suc (n - f - 1) = omega arith in
-              let t : map_bit h f ≡ true = first.3 k in
-              let z : same [] (map (λ (x : ℕ). 128 * x) (runs 0 (map_bits h f (suc (n - f - 1))))) ≡ false = rw t (some_run 0 (map_bits h (f + 1) (n - f - 1))) in
-              ap (λ w. same [] (map (λ (x : ℕ). 128 * x) (runs 0 (map_bits h f w)))) m ∙ z ∙ sym (ne_eqb f n q))
+        let r = runs_clear n b f first in
+        let d = drop_all i ds l in
+        elim (cases_eq f n) [
+          | inl q ↦ (let z : n - f ≡ 0 = omega arith in let e = eq-eqb f n q in rw (r, d, z, e))
+          | inr q ↦ (let m : n - f ≡ suc (n - f - 1) = omega (arith, first.1) in
+              let t = first.3 (omega (arith, first.1)) in
+              let s = some_run 0 (map_bits h (f + 1) (n - f - 1)) in
+              let e = ne_eqb f n q in
+              rw (r, d, m, t, s, e))
         ]
 
 -- a turn of the loop over the places: t says whether region i is of the size of its run

@@ -5,7 +5,7 @@ ghost use Rattle.buffer.specs.Walk.{moved, cursor};
 use crate::map::Map;
 
 // A data region, and a byte in it.
-#[derive(Clone, Copy)]
+#[derive(Clone, Copy, Default)]
 pub struct Cursor {
     pub region: usize,
     pub byte: usize,
@@ -38,10 +38,6 @@ impl Cursor {
         requires { b ≤ 256 }
         ensures { result ≡ cursor map.entry.head.now b }
     {
-        let mut at = Cursor { region: 0, byte: 0 };
-        for k in 0..b {
-            at = at.step_past(map.bit(k));
-        }
-        at
+        (0..b).fold(Cursor::default(), |at, k| at.step_past(map.bit(k)))
     }
 }

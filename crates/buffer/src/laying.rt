@@ -42,6 +42,7 @@ fn lay_chunks(map: Map<'_>, rest: Item<'_>, k: usize, sector: &mut [u8; 512])
     ensures { sector.new ≡ overlay (cover_of (cover (bits_of map.entry) (joined (regions_of rest.entry))) k) sector.old }
 {
     let mut at = Cursor::before(map, 4 * k);
+    // Kept: of a sector lent out by `chunks_exact_mut` or `as_chunks_mut` a proof knows no byte once the loan is over, so a chunk is cut out by its number.
     for i in 0..4 {
         let here = map.bit(4 * k + i);
         if here {

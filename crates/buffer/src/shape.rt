@@ -13,6 +13,7 @@ use item::item::Item;
 use keys::patch::PatchKey;
 
 // The flags of a patch and of a cancel.
+// Kept: one `match` tells the flags apart, and an enum would add a conversion from numbers that is longer than it.
 const PATCH: u16 = 0;
 
 const CANCEL: u16 = 2;

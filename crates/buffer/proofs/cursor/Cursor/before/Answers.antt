@@ -1,9 +1,9 @@
-use Rattle.std.proofs.Common.{arith}
-use Rattle.buffer.proofs.Lays.{small_at}
+use Rattle.std.proofs.Common.{refl, rules}
+use Rattle.buffer.proofs.Walking.{walk_callable, walk_gives}
 use Rattle.buffer.proofs.cursor.Cursor.before.Goals as goal
 
-pub step_past-at-requires-clause-few : goal.step_past-at-requires-clause-few
-step_past-at-requires-clause-few c = let s = small_at c.args.map.head.now c.loop-k.k c.loop-k.at c.loop-k.invariant in omega arith
+pub fold-requires-clause-callable : goal.fold-requires-clause-callable
+fold-requires-clause-callable c = walk_callable _ c.args.map.head.now _ (λ at k r e call. search rules) c.default.result c.args.b _ refl c.requires c.default.ensures (λ at k few near. search rules)
 
-pub step_past-at-requires-clause-near : goal.step_past-at-requires-clause-near
-step_past-at-requires-clause-near c = let s = small_at c.args.map.head.now c.loop-k.k c.loop-k.at c.loop-k.invariant in omega arith
+pub returns : goal.returns
+returns c = walk_gives _ c.args.map.head.now _ (λ at k r e call. search rules) c.default.result c.args.b _ c.fold.result refl c.default.ensures c.fold.ensures.ran
