@@ -7,7 +7,7 @@ use crate::cause::LogFault;
 use crate::sectors::read_sector;
 use device::interface::Device;
 use label::geometry::Geometry;
-use label::labelling::label_of;
+use label::label::Label;
 use label::limits::geometry_of;
 
 // The label on sector 0: refused on a device of no sectors, where it cannot be read, and where a field breaks its limit.
@@ -19,7 +19,7 @@ pub fn read_label<D: Device>(device: &D) -> Result<Geometry, LogFault>
         return Err(LogFault::Label);
     }
     let sector = read_sector(device, 0)?;
-    match geometry_of(label_of(&sector), size) {
+    match geometry_of(Label::from(&sector), size) {
         Some(geometry) => Ok(geometry),
         None => Err(LogFault::Label),
     }

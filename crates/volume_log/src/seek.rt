@@ -15,7 +15,7 @@ use device::interface::Device;
 use label::geometry::Geometry;
 use label::position::join;
 use record::header::RecordHeader;
-use record::heading::{header_of, held_position, is_header, sound};
+use record::heading::{held_position, is_header, sound};
 
 // The first of `n` positions from `first` on that is not held, or the one after them.
 fn first_free<D: Device>(
@@ -63,7 +63,7 @@ fn look_at(geometry: Geometry, head: u64, x: u64, sector: &[u8; 512]) -> Look
     if !is_header(sector) {
         return Look::Passed;
     }
-    let header = header_of(sector);
+    let header = RecordHeader::from(sector);
     if !sound(geometry, &header, x) {
         return Look::Broken;
     }
@@ -139,5 +139,5 @@ pub fn seek_log<D: Device>(device: &D, geometry: Geometry) -> Result<Found, LogF
     let last = newest(device, geometry, most, free)?;
     let count = geometry.label.count as u64;
     let sector = read_sector(device, geometry.label.start as u64 + last % count)?;
-    ended(geometry, most, free, last, &header_of(&sector))
+    ended(geometry, most, free, last, &RecordHeader::from(&sector))
 }

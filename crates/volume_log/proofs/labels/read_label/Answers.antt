@@ -9,5 +9,5 @@ returns-in-None g c =
     let b = c.in_ok-sector.sector in
     let some : 0 < s.size = omega (arith, c.size-size.ensures) in
     let broken : limits (label_of b) s.size ≡ false =
-    ap (limits (label_of b)) (sym c.size-size.ensures) ∙ ap (λ L. limits L c.size-size.result) (sym c.label_of.ensures) ∙ c.in-None.ensures in
+    ap (limits (label_of b)) (sym c.size-size.ensures) ∙ ap (λ L. limits L c.size-size.result) (sym c.from.ensures) ∙ c.in-None.ensures in
     sym (breaks_limit s b some (sym c.read_sector.ensures ∙ c.in_ok-sector.was) broken)

@@ -99,4 +99,4 @@ returns g c =
     let w = accepted c.newest.result n (newest L (log_of s L) m h) c.newest.ensures c.in_ok-last.was in
     let l : 0 < L.count = omega arith in
     let r = sym c.read_sector.ensures ∙ c.in_ok-sector.was in
-    c.ended.ensures ∙ ap (ends_by L m h n) c.header_of.ensures ∙ sym (last_step s L m h n c.in_ok-sector.sector k.readable k.is e q w (mod_below n L.count l) r)
+    c.ended.ensures ∙ ap (ends_by L m h n) c.from.ensures ∙ sym (last_step s L m h n c.in_ok-sector.sector k.readable k.is e q w (mod_below n L.count l) r)

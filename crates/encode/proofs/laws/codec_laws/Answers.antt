@@ -3,10 +3,10 @@ use mathlib.Core.List.{[]}
 use Rattle.codec.proofs.Numbers.{length_be_bytes, length_le_bytes, be_within, le_within, be_put, le_put}
 use Rattle.codec.proofs.Puts.{length_put, put_below, put_above}
 use Rattle.codec.specs.Signs.{signed32_back, signed64_back}
-use Rattle.encode.proofs.laws.hold.Goals as goal
+use Rattle.encode.proofs.laws.codec_laws.Goals as goal
 
-pub returns : goal.returns
-returns c =
+pub returns-clause-laws : goal.returns-clause-laws
+returns-clause-laws c =
     record {
       be_length = length_be_bytes;
       le_length = length_le_bytes;
