@@ -21,6 +21,7 @@ fn with_words(bytes: &mut [u8], words: &[u8; 256])
 {
     let sectors = whole_sectors(bytes);
     let (words, _) = words.as_chunks::<4>();
+    // Kept: the place by its number. A loop over `chunks_exact_mut` was tried and not proved: no clause says what it leaves.
     for (k, word) in words.iter().take(sectors).enumerate() {
         put_bytes(bytes, 512 * k, word);
     }
@@ -32,6 +33,7 @@ fn saved_words(bytes: &[u8]) -> [u8; 256]
 {
     let mut saved = [0; 256];
     let (sectors, _) = bytes.as_chunks::<512>();
+    // Kept: the place by its number, as in `with_words`: no clause says what a loop over `as_chunks_mut` leaves in `saved`.
     for (k, sector) in sectors.iter().take(64).enumerate() {
         put_bytes(&mut saved, 4 * k, &sector[..4]);
     }
@@ -43,6 +45,7 @@ fn stamp(geometry: Geometry, place: (u32, u32), bytes: &mut [u8])
     ensures { bytes.new ≡ stored geometry.label (position geometry.label place.0 place.1 + 1) (whole_sectors bytes.old) bytes.old }
 {
     let first = join(geometry, place) + 1;
+    // Kept: the place by its number, as in `with_words`, since each sector is written.
     for k in 0..whole_sectors(bytes) {
         let cycle = (first + k as u64) / geometry.label.count as u64;
         ((cycle & 0xFFFF_FFFF) as u32).put_be(bytes, 512 * k);
