@@ -7,7 +7,7 @@ ghost use Rattle.record.specs.Record.{end_of};
 use device::interface::Device;
 use label::geometry::Geometry;
 use record::header::RecordHeader;
-use record::heading::{header_of, is_header, sound};
+use record::heading::{is_header, sound};
 use volume_log::cause::LogFault;
 use volume_log::sectors::read_sector;
 
@@ -26,7 +26,7 @@ fn header_due(geometry: Geometry, end: u64, x: u64, sector: &[u8; 512]) -> Resul
     if !is_header(sector) {
         return Err(LogFault::Chain { sector: at });
     }
-    let header = header_of(sector);
+    let header = RecordHeader::from(sector);
     if !sound(geometry, &header, x) {
         return Err(LogFault::Unsound { sector: at });
     }

@@ -12,7 +12,6 @@ use crate::rows::read_row;
 use device::interface::Device;
 use label::geometry::Geometry;
 use record::header::RecordHeader;
-use record::heading::header_of;
 use stored::saved::unpack;
 use stored::sum::checksum;
 use volume_log::cause::LogFault;
@@ -21,7 +20,7 @@ use volume_log::cause::LogFault;
 fn sum_is_right(sector: &[u8; 512], stored: &[u8]) -> bool
     ensures { result ≡ sum_right sector.now stored.now }
 {
-    checksum(sector, stored) == header_of(sector).sum
+    checksum(sector, stored) == RecordHeader::from(sector).sum
 }
 
 // Puts the saved words back into the data of a record.
@@ -62,7 +61,7 @@ fn restore_front(
     ensures answer { outcome result ≡ header_answer geometry.label x sector.now (take (header_of sector.now).length buffer.old) }
     ensures buffer { buffer.new ≡ restored_data sector.now (take (header_of sector.now).length buffer.old) ++ drop (header_of sector.now).length buffer.old }
 {
-    let header = header_of(sector);
+    let header = RecordHeader::from(sector);
     let length = header.length as usize;
     restore(geometry, x, sector, &mut buffer[0..length])?;
     Ok(header)
@@ -95,7 +94,7 @@ fn read_at<D: Device>(
     ensures { left (outcome result) buffer.new ≡ read_record (D.state device.now) geometry.label end position buffer.old }
 {
     let sector = due_header(device, geometry, end, position, buffer.len())?;
-    let sectors = header_of(&sector).length as usize / 512;
+    let sectors = RecordHeader::from(&sector).length as usize / 512;
     read_row(device, geometry, position + 1, sectors, buffer)?;
     restore_front(geometry, position, &sector, buffer)
 }

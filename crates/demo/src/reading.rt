@@ -2,12 +2,12 @@
 use crate::telling::{tell_bytes, tell_label};
 use device::interface::Device;
 use label::geometry::Geometry;
-use label::labelling::label_of;
+use label::label::Label;
 use label::limits::geometry_of;
 use label::position::join;
 use memory::ram::Memory;
 use record::header::RecordHeader;
-use record::heading::{header_of, held_cycle, held_position, is_header, sound};
+use record::heading::{held_cycle, held_position, is_header, sound};
 use std::io;
 use stored::saved::unpack;
 use stored::sum::checksum;
@@ -18,7 +18,7 @@ pub fn tell_log(rt: &HostRuntime, volume: &Memory) -> io::Result<()> {
     let Ok(()) = volume.read(0, &mut sector) else {
         return rt.println("sector 0 cannot be read");
     };
-    let label = label_of(&sector);
+    let label = Label::from(&sector);
     tell_label(rt, "its label, read back", &label)?;
     match geometry_of(label, volume.size()) {
         Some(geometry) => {
@@ -82,7 +82,7 @@ fn tell_record(rt: &HostRuntime, volume: &Memory, geometry: Geometry) -> io::Res
     ) else {
         return rt.println("  its record cannot be read");
     };
-    let header = header_of(&first);
+    let header = RecordHeader::from(&first);
     tell_header(rt, geometry, &header)?;
     tell_verdict(rt, geometry, &header, checksum(&first, &stored))?;
     unpack(&first, &mut stored);

@@ -12,7 +12,6 @@ use device::interface::Device;
 use faults::cause::Fault;
 use label::geometry::Geometry;
 use label::label::Label;
-use label::labelling::label_bytes;
 use label::limits::geometry_of;
 
 // Writes the label, a log of zeros and a clearing record, and forces the device; refused with nothing written where a field
@@ -32,7 +31,7 @@ fn write_label<D: Device>(device: &mut D, geometry: Geometry) -> Result<(), Devi
     ensures ran { run (label_actions geometry.label) (D.state device.old) ≡ record { answer = result; after = D.state device.new } }
     ensures kept { D.kept device.old device.new }
 {
-    device.write(0, &label_bytes(geometry.label))?;
+    device.write(0, &<[u8; 512]>::from(geometry.label))?;
     write_zeros(
         device,
         geometry.label.start as u64,

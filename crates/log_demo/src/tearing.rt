@@ -4,36 +4,15 @@ use device::fault::DeviceFault;
 use device::interface::Device;
 use label::geometry::Geometry;
 use memory::ram::Memory;
-use record::header::RecordHeader;
-use stored::heading::header_bytes;
+use stored::heading::{header_at, sealed};
 use stored::saved::pack;
-use stored::sum::checksum;
 
-// The header of a record with one data sector, its tail at the first position of cycle 1, still without its checksum.
-fn header_at(geometry: Geometry, own: (u32, u32)) -> RecordHeader {
-    let uuid = geometry.label.uuid;
-    RecordHeader {
-        cycle: own.0,
-        version: 2,
-        length: 512,
-        own,
-        tail: (1, 0),
-        sum: 0,
-        previous: 0,
-        ops: 0,
-        format: 1,
-        uuid,
-        most: geometry.label.most,
-    }
-}
-
-// The two sectors of such a record.
+// The two sectors of a record of zeros, its tail at the first position of cycle 1.
 fn record_at(geometry: Geometry, own: (u32, u32)) -> [[u8; 512]; 2] {
-    let mut bytes = [0u8; 512];
+    let mut bytes = [0; 512];
     let saved = pack(geometry, own, &mut bytes);
-    let mut header = header_at(geometry, own);
-    header.sum = checksum(&header_bytes(&header, &saved), &bytes);
-    [header_bytes(&header, &saved), bytes]
+    let header = header_at(geometry.label, own, (1, 0), 0, 0, 1);
+    [sealed(&header, &saved, &bytes), bytes]
 }
 
 // Writes one at a log sector, in cycle 1.

@@ -7,12 +7,10 @@ use label::label::Label;
 use label::position::split;
 use memory::cell::blank_cells;
 use memory::ram::Memory;
-use record::header::RecordHeader;
 use std::process::Abort;
 use std::test::Fail;
-use stored::heading::header_bytes;
+use stored::heading::{header_at, sealed};
 use stored::saved::pack;
-use stored::sum::checksum;
 use volume_log::cause::LogFault;
 
 // Sectors 32 to 63 are the log, with a window of 16 and records of at most 4096 bytes.
@@ -68,31 +66,12 @@ pub fn put_cycle(rt: &impl Abort, volume: &mut Memory, index: u64, cycle: u8) ->
     Ok(volume.write(32 + index, &bytes)?)
 }
 
-// The header of a record with one data sector, and no checksum yet.
-fn header_at(geometry: Geometry, own: (u32, u32), tail: (u32, u32)) -> RecordHeader {
-    let uuid = geometry.label.uuid;
-    RecordHeader {
-        cycle: own.0,
-        version: 2,
-        length: 512,
-        own,
-        tail,
-        sum: 0,
-        previous: 0,
-        ops: 0,
-        format: 1,
-        uuid,
-        most: 4096,
-    }
-}
-
 // The two sectors of a record with its data full of sevens.
 fn record_at(geometry: Geometry, own: (u32, u32), tail: (u32, u32)) -> [[u8; 512]; 2] {
-    let mut bytes = [7u8; 512];
+    let mut bytes = [7; 512];
     let saved = pack(geometry, own, &mut bytes);
-    let mut header = header_at(geometry, own, tail);
-    header.sum = checksum(&header_bytes(&header, &saved), &bytes);
-    [header_bytes(&header, &saved), bytes]
+    let header = header_at(geometry.label, own, tail, 0, 0, 1);
+    [sealed(&header, &saved, &bytes), bytes]
 }
 
 // Writes such a record at an even position.

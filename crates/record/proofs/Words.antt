@@ -1,6 +1,6 @@
 -- The first words of data sectors, taken out and put in. Assumes nothing.
-use Rattle.std.proofs.Common.{◌≡◌, ℕ, zero, suc, ◌+◌, ◌-◌, ◌*◌, ◌/◌, ◌%◌, ◌≤◌, List, [], ◌∷◌, ◌++◌, length, take, drop, set, sym, refl, ap, ◌∙◌, append-nil, arith}
-use Rattle.std.proofs.lemmas.List.{take-append-le, drop-append-le, length-take, length-drop, length-append, take_at, drop_at, take-append-drop, drop-drop, append_assoc}
+use Rattle.std.proofs.Common.{◌≡◌, ℕ, zero, suc, ◌+◌, ◌-◌, ◌*◌, ◌/◌, ◌%◌, ◌<◌, ◌≤◌, List, [], ◌∷◌, ◌++◌, length, take, drop, set, sym, refl, ap, ◌∙◌, append-nil, arith}
+use Rattle.std.proofs.lemmas.List.{length-take, length-drop, length-append, take_at, drop_at, take-append-drop, drop-drop, append_assoc}
 use Rattle.codec.specs.Fields.{put, part, be32_bytes, zeros}
 use Rattle.label.specs.Position.{cycle}
 use Rattle.label.specs.declared.label.Label.{Label}
@@ -101,21 +101,15 @@ pub length_cycles : (L : Label) (x n : ℕ) → length (cycle_words L x n) ≡ 4
 length_cycles L x zero = refl
 length_cycles L x (suc n) = omega (arith, length-append (be32_bytes (cycle L x)) (cycle_words L (x + 1) n), length_cycles L (x + 1) n)
 
--- the cycle of one position more
-pub cycles_more : (L : Label) (x k : ℕ) → cycle_words L x (k + 1) ≡ cycle_words L x k ++ be32_bytes (cycle L (x + k))
-cycles_more L x zero = let e : x ≡ x + 0 = omega arith in ap (λ y. be32_bytes (cycle L y)) e
-cycles_more L x (suc k) =
-    let s : suc k + 1 ≡ suc (k + 1) = omega arith in
+-- the cycle of the position k places on
+pub cycle_at : (L : Label) (x n k : ℕ) → k < n → part (4 * k) 4 (cycle_words L x n) ≡ be32_bytes (cycle L (x + k))
+cycle_at L x zero k h = let z : ⊥ = omega arith in elim z [ ]
+cycle_at L x (suc n) zero h = let e : x ≡ x + 0 = omega arith in ap (λ y. be32_bytes (cycle L y)) e
+cycle_at L x (suc n) (suc k) h =
+    let e : 4 * suc k ≡ 4 + 4 * k = omega arith in
     let q : x + 1 + k ≡ x + suc k = omega arith in
-    ap (cycle_words L x) s ∙ ap (λ r. be32_bytes (cycle L x) ++ r) (cycles_more L (x + 1) k) ∙ ap (λ y. be32_bytes (cycle L x) ++ (cycle_words L (x + 1) k ++ be32_bytes (cycle L y))) q
-
--- words behind those that are used do not matter
-pub words_enough : (n : ℕ) (w rest b : List ℕ) → 4 * n ≤ length w → with_words n (w ++ rest) b ≡ with_words n w b
-words_enough zero w rest b h = refl
-words_enough (suc n) w rest b h =
-    ap (λ p. p ++ (part 4 508 b ++ with_words n (drop 4 (w ++ rest)) (drop 512 b))) (take-append-le 4 w rest (omega arith))
-    ∙ ap (λ p. take 4 w ++ (part 4 508 b ++ with_words n p (drop 512 b))) (drop-append-le 4 w rest (omega arith))
-    ∙ ap (λ p. take 4 w ++ (part 4 508 b ++ p)) (words_enough n (drop 4 w) rest (drop 512 b) (omega (arith, length-drop 4 w)))
+    ap (λ i. part i 4 (cycle_words L x (suc n))) e ∙ ap (take 4) (sym (drop-drop (4 * k) 4 (cycle_words L x (suc n))))
+    ∙ cycle_at L (x + 1) n k (omega arith) ∙ ap (λ y. be32_bytes (cycle L y)) q
 
 -- data keeps its length
 pub length_with : (n : ℕ) (w b : List ℕ) → 4 * n ≤ length w → 512 * n ≤ length b → length (with_words n w b) ≡ length b
@@ -140,10 +134,3 @@ low_bytes x =
     let c : x % 4294967296 / 256 % 256 ≡ x / 256 % 256 = omega arith in
     let d : x % 4294967296 % 256 ≡ x % 256 = omega arith in
     rw (a, b, c, d)
-
--- one cycle more is written
-pub cycle_more : (L : Label) (x k : ℕ) → k + 1 ≤ 64 → put (cycle_words L x k ++ zeros (4 * (64 - k))) (4 * k) (be32_bytes (cycle L (x + k))) ≡ cycle_words L x (k + 1) ++ zeros (4 * (64 - (k + 1)))
-cycle_more L x k l =
-    let e : 4 + 4 * (64 - (k + 1)) ≡ 4 * (64 - k) = omega arith in
-    fill_at (cycle_words L x k) (be32_bytes (cycle L (x + k))) (4 * k) (4 * (64 - k)) (4 * (64 - (k + 1))) (length_cycles L x k) e
-    ∙ ap (λ y. y ++ zeros (4 * (64 - (k + 1)))) (sym (cycles_more L x k))

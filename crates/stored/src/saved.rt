@@ -1,8 +1,7 @@
 // Saved words: in each stored data sector the cycle stands in place of the first word, and the header keeps the word.
-ghost use Rattle.std.specs.Prelude.{◌≡◌, ◌++◌, ◌+◌, ◌*◌, ◌-◌, ◌≤◌};
-ghost use Rattle.codec.specs.Fields.{zeros};
+ghost use Rattle.std.specs.Prelude.{◌≡◌, ◌+◌};
 ghost use Rattle.label.specs.Position.{position};
-ghost use Rattle.record.specs.Record.{whole_sectors, with_words, saved_words, cycle_words, stored, restored};
+ghost use Rattle.record.specs.Record.{whole_sectors, with_words, saved_words, stored, restored};
 
 use codec::fields::bytes_at;
 use encode::fields::{PutNumber, put_bytes};
@@ -21,8 +20,10 @@ fn with_words(bytes: &mut [u8], words: &[u8; 256])
     ensures { bytes.new ≡ with_words (whole_sectors bytes.old) words.now bytes.old }
 {
     let sectors = whole_sectors(bytes);
-    for k in 0..sectors {
-        put_bytes(bytes, 512 * k, &words[4 * k..4 * k + 4]);
+    let (words, _) = words.as_chunks::<4>();
+    // Kept: the place by its number. A loop over `chunks_exact_mut` was tried and not proved: no clause says what it leaves.
+    for (k, word) in words.iter().take(sectors).enumerate() {
+        put_bytes(bytes, 512 * k, word);
     }
 }
 
@@ -30,34 +31,25 @@ fn with_words(bytes: &mut [u8], words: &[u8; 256])
 fn saved_words(bytes: &[u8]) -> [u8; 256]
     ensures { result ≡ saved_words (whole_sectors bytes.now) bytes.now }
 {
-    let mut saved = [0u8; 256];
-    let sectors = whole_sectors(bytes);
-    for k in 0..sectors {
-        put_bytes(&mut saved, 4 * k, &bytes[512 * k..512 * k + 4]);
+    let mut saved = [0; 256];
+    let (sectors, _) = bytes.as_chunks::<512>();
+    // Kept: the place by its number, as in `with_words`: no clause says what a loop over `as_chunks_mut` leaves in `saved`.
+    for (k, sector) in sectors.iter().take(64).enumerate() {
+        put_bytes(&mut saved, 4 * k, &sector[..4]);
     }
     saved
-}
-
-// The cycles of the positions after `place`, one for each of `sectors` sectors, then zeros.
-fn cycle_words(geometry: Geometry, place: (u32, u32), sectors: usize) -> [u8; 256]
-    requires { sectors ≤ 64 }
-    ensures { result ≡ cycle_words geometry.label (position geometry.label place.0 place.1 + 1) sectors ++ zeros (4 * (64 - sectors)) }
-{
-    let mut words = [0u8; 256];
-    let first = join(geometry, place) + 1;
-    for k in 0..sectors {
-        let cycle = (first + k as u64) / geometry.label.count as u64;
-        ((cycle & 0xFFFF_FFFF) as u32).put_be(&mut words, 4 * k);
-    }
-    words
 }
 
 // Puts the cycle of its position in place of each sector's first word, behind a header at `place`.
 fn stamp(geometry: Geometry, place: (u32, u32), bytes: &mut [u8])
     ensures { bytes.new ≡ stored geometry.label (position geometry.label place.0 place.1 + 1) (whole_sectors bytes.old) bytes.old }
 {
-    let words = cycle_words(geometry, place, whole_sectors(bytes));
-    with_words(bytes, &words);
+    let first = join(geometry, place) + 1;
+    // Kept: the place by its number, as in `with_words`, since each sector is written.
+    for k in 0..whole_sectors(bytes) {
+        let cycle = (first + k as u64) / geometry.label.count as u64;
+        ((cycle & 0xFFFF_FFFF) as u32).put_be(bytes, 512 * k);
+    }
 }
 
 // Turns data into the sectors as they are stored behind a header at `place`, and gives the words to save.

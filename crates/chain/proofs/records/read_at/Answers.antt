@@ -32,7 +32,7 @@ read_row-requires g c =
     let b = c.in_ok-sector.sector in
     let h = accepted c.due_header.result b (header_on s L c.args.end x (length old)) c.due_header.ensures c.in_ok-sector.was in
     let k = known s L c.args.end x (length old) b h in
-    let e : c.header_of.result.length ≡ (header_of b).length = ap (λ y. y.length) c.header_of.ensures in
+    let e : c.from.result.length ≡ (header_of b).length = ap (λ y. y.length) c.from.ensures in
     (omega (arith, e, k.most, k.room_for), omega (arith, e, k.by))
 
 pub restore_front-requires : goal.restore_front-requires
@@ -64,7 +64,7 @@ returns-in_err-read_row g c =
     let old = c.args.buffer.now in
     let b = c.in_ok-sector.sector in
     let h = accepted c.due_header.result b (header_on s L c.args.end x (length old)) c.due_header.ensures c.in_ok-sector.was in
-    let n : c.header_of.result.length / 512 ≡ data_sectors (header_of b) = ap (λ y. y.length / 512) c.header_of.ensures in
+    let n : c.from.result.length / 512 ≡ data_sectors (header_of b) = ap (λ y. y.length / 512) c.from.ensures in
     let left_by = c.read_row.ensures.buffer ∙ ap (λ (i : ℕ). over (read_before s L (x + 1) i) (joined (row s L (x + 1) (read_before s L (x + 1) i))) old) n in
     let p = err_from_is_err_and c.from_residual-in_err-read_row.result c.from_residual-in_err-read_row.ensures.1 in
     let q = told_err (sectors_on s L (x + 1) (data_sectors (header_of b))) _ (ap (λ (i : ℕ). told (sectors_on s L (x + 1) i)) (sym n) ∙ sym c.read_row.ensures.answer ∙ c.in_err-read_row.was) in
@@ -79,7 +79,7 @@ returns g c =
     let b = c.in_ok-sector.sector in
     let h = accepted c.due_header.result b (header_on s L c.args.end x (length old)) c.due_header.ensures c.in_ok-sector.was in
     let k = known s L c.args.end x (length old) b h in
-    let n : c.header_of.result.length / 512 ≡ data_sectors (header_of b) = ap (λ y. y.length / 512) c.header_of.ensures in
+    let n : c.from.result.length / 512 ≡ data_sectors (header_of b) = ap (λ y. y.length / 512) c.from.ensures in
     let left_by = c.read_row.ensures.buffer ∙ ap (λ (i : ℕ). over (read_before s L (x + 1) i) (joined (row s L (x + 1) (read_before s L (x + 1) i))) old) n in
     let t = ap (λ (i : ℕ). told (sectors_on s L (x + 1) i)) (sym n) ∙ sym c.read_row.ensures.answer ∙ c.in_ok-read_row.was in
     let w = ap (λ (i : ℕ). length (joined (row s L (x + 1) i))) (sym n) ∙ c.read_row.ensures.whole c.in_ok-read_row.was ∙ ap (λ (i : ℕ). 512 * i) n in
