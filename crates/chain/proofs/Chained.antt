@@ -1,6 +1,5 @@
 -- A record that was read, by the sectors of the whole log. Assumes nothing.
 use Rattle.std.proofs.Common.{◌≡◌, ℕ, zero, suc, ◌+◌, ◌≤◌, Bool, true, false, cond, leb, List, length, Ok, Err, sym, refl, ap, ◌∙◌, mod-lt, arith}
-use Rattle.std.proofs.lemmas.Bool.{le-leb}
 use Rattle.codec.specs.Fields.{joined}
 use Rattle.device.specs.State.{DevState}
 use Rattle.device.specs.Steps.{read, reads, then_read, then_rest}
@@ -8,13 +7,14 @@ use Rattle.device.proofs.Reading.{reads_each}
 use Rattle.label.specs.declared.label.Label.{Label}
 use Rattle.label.specs.Position.{log_sector, volume_sector}
 use Rattle.record.specs.Record.{is_header, header_of, sound, end_of, restored}
-use Rattle.model.specs.Refusals.{Refusal, refusal, by_record, by_session, Outcome, ◌>>=◌, need, from_device}
+use Rattle.model.specs.Refusals.{Refusal, refusal, by_record, Outcome, ◌>>=◌, need}
 use Rattle.model.specs.View.{at, read_log}
 use Rattle.model.specs.Reading.{sectors_from, data_sectors, record_stands}
 use Rattle.model.proofs.Outcomes.{device_ok}
 use Rattle.chain.specs.Rows.{sectors_on, over}
 use Rattle.chain.specs.Records.{header_due, header_on, sum_right, sum_answer, data_on, record_by, read_record}
 use Rattle.chain.specs.Standing.{Stands}
+use Rattle.chain.proofs.Heads.{on_read}
 
 module _ (d : DevState) (L : Label) (log : List (List ℕ)) (some : 1 ≤ L.count) (r : reads d L.start L.count ≡ Ok log) where
   read_at : (x : ℕ) → read d (volume_sector L x) ≡ Ok (at L log x)
@@ -53,9 +53,7 @@ stands d L log e x old some h m =
     let b = at L log x in
     let u = header_due L e x b in
     let J = sectors_from L log (x + 1) (data_sectors (header_of b)) in
-    let H : header_on d L e x (length old) ≡ (u >>= λ _. Ok b) =
-    ap (λ t. need t (refusal 4 by_session 0 0) >>= λ _. from_device (read d (volume_sector L x)) >>= λ b. header_due L e x b >>= λ _. Ok b) (le-leb L.most (length old) m)
-    ∙ ap (λ q. from_device q >>= λ b. header_due L e x b >>= λ _. Ok b) (read_at d L log some r x) in
+    let H : header_on d L e x (length old) ≡ (u >>= λ _. Ok b) = on_read d L e x (length old) b m (read_at d L log some r x) in
     let v : record_stands L log e x ≡ (u >>= λ _. sum_answer L x b (joined J)) = apart (is_header b) (sound L (header_of b) x) (leb (end_of (header_of b) x) e) _ _ _ (sum_answer L x b (joined J)) in
     let p = by_header d L x old b J u (record_stands L log e x) (on_log d L log some r (x + 1) (data_sectors (header_of b))) v in
     record { answer = ap (λ y. (record_by d L x old y).answer) H ∙ p.0; restores = λ k. ap (λ y. (record_by d L x old y).buffer) H ∙ p.1 k }

@@ -1,6 +1,6 @@
 -- A header that was found due. Assumes nothing.
-use Rattle.std.proofs.Common.{◌≡◌, ℕ, ◌+◌, ◌/◌, ◌%◌, ◌≤◌, true, not, eqb, leb, List, Ok, sym, ap, ◌∙◌}
-use Rattle.std.proofs.lemmas.Bool.{and_parts, eqb-true, leb-true}
+use Rattle.std.proofs.Common.{◌≡◌, ℕ, ◌+◌, ◌/◌, ◌%◌, ◌≤◌, true, not, eqb, leb, List, Ok, Err, ap, ◌∙◌, arith}
+use Rattle.std.proofs.lemmas.Bool.{and_parts, eqb-true, leb-true, le-leb}
 use Rattle.device.specs.State.{DevState}
 use Rattle.device.specs.Steps.{read}
 use Rattle.label.specs.declared.label.Label.{Label}
@@ -8,9 +8,9 @@ use Rattle.std.specs.Str.{bytes_eq}
 use Rattle.label.specs.Position.{volume_sector, cycle, log_sector}
 use Rattle.record.specs.declared.header.RecordHeader.{RecordHeader}
 use Rattle.record.specs.Record.{is_header, header_of, sound, end_of}
-use Rattle.model.specs.Refusals.{refusal, by_record, ◌>>=◌, from_device}
+use Rattle.model.specs.Refusals.{Refusal, refusal, by_record, by_session, Outcome, ◌>>=◌, need, from_device}
 use Rattle.model.proofs.Outcomes.{need_ok, bind_ok}
-use Rattle.chain.specs.Records.{header_due, header_on}
+use Rattle.chain.specs.Records.{header_due, due_answer, header_on}
 
 -- what is known of it
 pub record Due (L : Label) (e x room : ℕ) (b : List ℕ) : Type 0 where
@@ -40,10 +40,22 @@ due_is L e x room b u m h =
     let t = need_ok (leb (end_of (header_of b) x) e) (refusal 8 by_record (volume_sector L x) 0) (λ v. Ok v) u (ap (λ y. y >>= λ v. Ok v) s.1) in
     record { room_for = m; whole = l.0; most = l.1; by = leb-true (end_of (header_of b) x) e t.0 }
 
-pub known : (d : DevState) (L : Label) (e x room : ℕ) (b : List ℕ) → header_on d L e x room ≡ Ok b → Due L e x room b
-known d L e x room b h =
-    let p = need_ok (leb L.most room) _ _ b h in
-    let q = bind_ok (from_device (read d (volume_sector L x))) _ b p.1 in
-    let r = bind_ok (header_due L e x q.0) _ b q.2 in
-    let same : q.0 ≡ b = cc r.2 in
-    due_is L e x room b r.0 (leb-true L.most room p.0) (ap (header_due L e x) (sym same) ∙ r.1)
+-- the header by the sector b, once it was read
+pub on_read : (d : DevState) (L : Label) (e x room : ℕ) (b : List ℕ) → L.most ≤ room → read d (volume_sector L x) ≡ Ok b → header_on d L e x room ≡ (header_due L e x b >>= λ _. Ok b)
+on_read d L e x room b m r =
+    ap (λ t. need t (refusal 4 by_session 0 0) >>= λ _. from_device (read d (volume_sector L x)) >>= λ b. header_due L e x b >>= λ _. Ok b) (le-leb L.most room m)
+    ∙ ap (λ q. from_device q >>= λ b. header_due L e x b >>= λ _. Ok b) r
+
+pub refused_on : (d : DevState) (L : Label) (e x room : ℕ) (b : List ℕ) (f : Refusal) → L.most ≤ room → read d (volume_sector L x) ≡ Ok b → due_answer L e x b ≡ Err f → header_on d L e x room ≡ Err f
+refused_on d L e x room b f m r a = on_read d L e x room b m r ∙ stops (header_due L e x b) a
+  where
+    stops : (u : Outcome (Unit {0})) → (u >>= λ _. Ok (header_of b)) ≡ Err f → (u >>= λ _. Ok b) ≡ Err f
+    stops (Ok tt) q = let z : ◌≡◌ {A = ℕ} 0 1 = cc in absurd (omega arith)
+    stops (Err k) q = cc
+
+pub found_on : (d : DevState) (L : Label) (e x room : ℕ) (b : List ℕ) (h : RecordHeader) → L.most ≤ room → read d (volume_sector L x) ≡ Ok b → due_answer L e x b ≡ Ok h
+    → (header_on d L e x room ≡ Ok b) × (h ≡ header_of b) × Due L e x room b
+found_on d L e x room b h m r a =
+    let p = bind_ok (header_due L e x b) _ h a in
+    let q : h ≡ header_of b = cc p.2 in
+    (on_read d L e x room b m r ∙ ap (λ u. u >>= λ _. Ok b) p.1, q, due_is L e x room b p.0 m p.1)

@@ -19,6 +19,10 @@ header_due L e x b =
     need (sound L (header_of b) x) (refusal 7 by_record (volume_sector L x) 0) >>= λ _.
     need (nat_le (end_of (header_of b) x) e) (refusal 8 by_record (volume_sector L x) 0)
 
+-- the header that is due there
+abbrev pub due_answer : Label → ℕ → ℕ → List ℕ → Outcome RecordHeader
+due_answer L e x b = header_due L e x b >>= λ _. Ok (header_of b)
+
 -- the sector of the header that is due at x: 4 without room for the most data, 3 where it cannot be read, then as above
 abbrev pub header_on : DevState → Label → ℕ → ℕ → ℕ → Outcome (List ℕ)
 header_on d L e x room =

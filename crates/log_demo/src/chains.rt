@@ -1,6 +1,6 @@
 // The log of a volume looked through: just labelled, torn by a cut of power, and with a byte of a record changed.
 use crate::tearing::{spoil, tear};
-use chain::records::read_record;
+use chain::records::Chain;
 use journal::labels::label_volume;
 use label::geometry::Geometry;
 use label::label::Label;
@@ -9,10 +9,10 @@ use memory::cell::blank_cells;
 use memory::ram::Memory;
 use record::header::RecordHeader;
 use std::io;
-use volume_log::cause::LogFault;
 use volume_log::found::Found;
+use volume_log::headers::end_of;
 use volume_log::labels::read_label;
-use volume_log::seek::seek_log;
+use volume_log::log::Log;
 
 // Tells of the three logs on a volume of 64 sectors with this label.
 pub fn tell_chains(rt: &HostRuntime, label: Label) -> io::Result<()> {
@@ -29,7 +29,7 @@ fn tell_volume(rt: &HostRuntime, volume: &mut Memory, label: Label) -> io::Resul
     }
     match read_label(volume) {
         Ok(geometry) => tell_logs(rt, volume, geometry),
-        Err(fault) => tell_fault(rt, fault),
+        Err(fault) => println!(rt; "  {fault}"),
     }
 }
 
@@ -52,12 +52,16 @@ fn tell_logs(rt: &HostRuntime, volume: &mut Memory, geometry: Geometry) -> io::R
 
 // What is found in the log, and its chain of records.
 fn tell_log(rt: &HostRuntime, volume: &Memory, geometry: Geometry) -> io::Result<()> {
-    match seek_log(volume, geometry) {
+    let log = Log {
+        device: volume,
+        geometry,
+    };
+    match log.seek() {
         Ok(found) => {
             tell_found(rt, found)?;
-            tell_records(rt, volume, geometry, found)
+            tell_records(rt, log, found)
         }
-        Err(fault) => tell_fault(rt, fault),
+        Err(fault) => println!(rt; "  {fault}"),
     }
 }
 
@@ -75,40 +79,23 @@ fn tell_found(rt: &HostRuntime, found: Found) -> io::Result<()> {
 }
 
 // The records from the tail to the end, up to the first that is refused.
-fn tell_records(
-    rt: &HostRuntime,
-    volume: &Memory,
-    geometry: Geometry,
-    found: Found,
-) -> io::Result<()> {
+fn tell_records(rt: &HostRuntime, log: Log<'_, Memory>, found: Found) -> io::Result<()> {
+    let chain = Chain {
+        log,
+        end: found.end,
+    };
+    let mut buffer = [0u8; 32768];
     let mut position = found.tail;
-    for _ in found.tail..found.end {
-        if position < found.end {
-            position = tell_record(rt, volume, geometry, found.end, position)?;
+    while position < chain.end {
+        match chain.read_record(position, &mut buffer) {
+            Ok(header) => {
+                tell_header(rt, log.geometry, position, &header)?;
+                position = end_of(&header, position);
+            }
+            Err(fault) => return println!(rt; "  {fault}"),
         }
     }
     Ok(())
-}
-
-// Tells of the record at a position, and gives the position after it; the end of the chain where it is refused.
-fn tell_record(
-    rt: &HostRuntime,
-    volume: &Memory,
-    geometry: Geometry,
-    end: u64,
-    position: u64,
-) -> io::Result<u64> {
-    let mut buffer = [0u8; 32768];
-    match read_record(volume, geometry, end, position, &mut buffer) {
-        Ok(header) => {
-            tell_header(rt, geometry, position, &header)?;
-            Ok(position.saturating_add(1 + header.length as u64 / 512))
-        }
-        Err(fault) => {
-            tell_fault(rt, fault)?;
-            Ok(end)
-        }
-    }
 }
 
 fn tell_header(
@@ -120,15 +107,4 @@ fn tell_header(
     let length = header.length;
     let tail = join(geometry, header.tail);
     println!(rt; "  record at {position}: {length} bytes of data, tail {tail}, checksum right")
-}
-
-fn tell_fault(rt: &HostRuntime, fault: LogFault) -> io::Result<()> {
-    let number = fault.number();
-    let sector = fault.sector();
-    match fault {
-        LogFault::Checksum { sector: _ } => println!(rt;
-            "  record at sector {sector}: checksum wrong, refused {number}"
-        ),
-        _ => println!(rt; "  refused {number} at sector {sector}"),
-    }
 }

@@ -18,7 +18,7 @@ fn record_at(geometry: Geometry, own: (u32, u32)) -> [[u8; 512]; 2] {
 // Writes one at a log sector, in cycle 1.
 fn put_record(volume: &mut Memory, geometry: Geometry, index: u32) -> Result<(), DeviceFault> {
     let sectors = record_at(geometry, (1, index));
-    write_range(volume, geometry.label.start as u64 + index as u64, &sectors)
+    write_range(volume, geometry.start() + index as u64, &sectors)
 }
 
 // Three records at the log sectors 2, 4 and 6; then a cut after which log sector 5 holds what it held before them: zeros.
@@ -26,7 +26,7 @@ pub fn tear(volume: &mut Memory, geometry: Geometry) -> Result<(), DeviceFault> 
     put_record(volume, geometry, 2)?;
     put_record(volume, geometry, 4)?;
     put_record(volume, geometry, 6)?;
-    volume.write(geometry.label.start as u64 + 5, &[0u8; 512])
+    volume.write(geometry.start() + 5, &[0u8; 512])
 }
 
 // Changes a byte of a sector.

@@ -1,41 +1,31 @@
 // What is found on them, and how they are refused.
 use crate::images::{blank, labelled, put_cycle, put_record, refused, spoil, without};
-use chain::records::{data_of, read_record};
+use chain::records::{Chain, data_of};
 use device::interface::Device;
-use label::geometry::Geometry;
 use memory::ram::Memory;
 use std::process::Abort;
 use std::test::Fail;
 use volume_log::found::Found;
 use volume_log::labels::read_label;
-use volume_log::seek::seek_log;
+use volume_log::log::Log;
 
-// What is found: greatest, head, newest, end, tail.
-fn finds(
-    rt: &impl Abort,
-    volume: &Memory,
-    greatest: u64,
-    head: u64,
-    newest: u64,
-    end: u64,
-    tail: u64,
-) -> Result<(), Fail> {
-    let geometry = read_label(volume)?;
-    let wanted = Found {
-        greatest,
-        head,
-        newest,
-        end,
-        tail,
-    };
-    assert_eq!(rt; seek_log(volume, geometry)?, wanted);
+// The log of a volume, by its label.
+fn log_of(volume: &Memory) -> Result<Log<'_, Memory>, Fail> {
+    Ok(Log {
+        device: volume,
+        geometry: read_label(volume)?,
+    })
+}
+
+// This is found.
+fn finds(rt: &impl Abort, volume: &Memory, wanted: Found) -> Result<(), Fail> {
+    assert_eq!(rt; log_of(volume)?.seek()?, wanted);
     Ok(())
 }
 
 // Looking through the log is refused so.
 fn lost(rt: &impl Abort, volume: &Memory, number: u8, sector: u64) -> Result<(), Fail> {
-    let geometry = read_label(volume)?;
-    refused(rt, seek_log(volume, geometry), number, sector)
+    refused(rt, log_of(volume)?.seek(), number, sector)
 }
 
 // Reading the record at a position that must end by `end` is refused so.
@@ -47,9 +37,9 @@ fn bad(
     number: u8,
     sector: u64,
 ) -> Result<(), Fail> {
-    let geometry = read_label(volume)?;
+    let log = log_of(volume)?;
     let mut buffer = [0u8; 4096];
-    let answer = read_record(volume, geometry, end, position, &mut buffer);
+    let answer = Chain { log, end }.read_record(position, &mut buffer);
     refused(rt, answer, number, sector)
 }
 
@@ -62,9 +52,9 @@ fn holds(
     at: usize,
     byte: u8,
 ) -> Result<(), Fail> {
-    let geometry = read_label(volume)?;
+    let log = log_of(volume)?;
     let mut buffer = [0u8; 4096];
-    let header = read_record(volume, geometry, end, position, &mut buffer)?;
+    let header = Chain { log, end }.read_record(position, &mut buffer)?;
     let bytes = data_of(&header, &buffer);
     assert!(rt; bytes.len() == 512 && at < 512);
     assert_eq!(rt; bytes[at], byte);
@@ -74,7 +64,14 @@ fn holds(
 #[test]
 fn just_labelled(rt: HostRuntime) -> Result<(), Fail> {
     let volume = labelled(&rt)?;
-    finds(&rt, &volume, 33, 34, 32, 34, 32)?;
+    let wanted = Found {
+        greatest: 33,
+        head: 34,
+        newest: 32,
+        end: 34,
+        tail: 32,
+    };
+    finds(&rt, &volume, wanted)?;
     holds(&rt, &volume, 34, 32, 7, 8)?;
     holds(&rt, &volume, 34, 32, 12, 0x6e)
 }
@@ -86,7 +83,14 @@ fn wrapped(rt: HostRuntime) -> Result<(), Fail> {
     for k in 17..33 {
         put_record(&mut volume, geometry, 2 * k, 40)?;
     }
-    finds(&rt, &volume, 65, 66, 64, 66, 40)?;
+    let wanted = Found {
+        greatest: 65,
+        head: 66,
+        newest: 64,
+        end: 66,
+        tail: 40,
+    };
+    finds(&rt, &volume, wanted)?;
     holds(&rt, &volume, 66, 62, 0, 7)?;
     holds(&rt, &volume, 66, 64, 3, 7)
 }
@@ -99,7 +103,14 @@ fn torn_in_its_window(rt: HostRuntime) -> Result<(), Fail> {
     put_record(&mut volume, geometry, 36, 32)?;
     put_record(&mut volume, geometry, 38, 32)?;
     put_cycle(&rt, &mut volume, 5, 0)?;
-    finds(&rt, &volume, 39, 37, 34, 36, 32)
+    let wanted = Found {
+        greatest: 39,
+        head: 37,
+        newest: 34,
+        end: 36,
+        tail: 32,
+    };
+    finds(&rt, &volume, wanted)
 }
 
 #[test]
@@ -155,15 +166,22 @@ fn broken_chain(rt: HostRuntime) -> Result<(), Fail> {
 fn wrong_sum(rt: HostRuntime) -> Result<(), Fail> {
     let mut volume = labelled(&rt)?;
     spoil(&rt, &mut volume, 33, 100, 1)?;
-    finds(&rt, &volume, 33, 34, 32, 34, 32)?;
+    let wanted = Found {
+        greatest: 33,
+        head: 34,
+        newest: 32,
+        end: 34,
+        tail: 32,
+    };
+    finds(&rt, &volume, wanted)?;
     bad(&rt, &volume, 34, 32, 9, 32)
 }
 
 #[test]
 fn short_buffer(rt: HostRuntime) -> Result<(), Fail> {
     let volume = labelled(&rt)?;
-    let geometry = read_label(&volume)?;
+    let log = log_of(&volume)?;
     let mut buffer = [0u8; 4095];
-    let answer = read_record(&volume, geometry, 34, 32, &mut buffer);
+    let answer = Chain { log, end: 34 }.read_record(32, &mut buffer);
     refused(&rt, answer, 4, 0)
 }

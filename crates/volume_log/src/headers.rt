@@ -1,5 +1,5 @@
 // What a record's header tells at its position.
-ghost use Rattle.std.specs.Prelude.{◌≡◌, ◌^◌, ◌<◌, nat_le};
+ghost use Rattle.std.specs.Prelude.{◌≡◌, ◌^◌, ◌<◌, min, nat_le};
 ghost use Rattle.volume_log.specs.Faults.{outcome};
 ghost use Rattle.volume_log.specs.Seeking.{look_at};
 ghost use Rattle.record.specs.Record.{end_of};
@@ -9,12 +9,12 @@ use label::geometry::Geometry;
 use record::header::RecordHeader;
 use record::heading::{is_header, sound};
 
-// The position after the record whose header stands at `position`.
-pub(crate) fn end_of(header: &RecordHeader, position: u64) -> u64
-    requires { position < 2 ^ 63 }
-    ensures { result ≡ end_of header.now position }
+// The position after the record whose header stands at `position`; the greatest number where it is too great for one.
+pub fn end_of(header: &RecordHeader, position: u64) -> u64
+    ensures value { result ≡ min (end_of header.now position) u64.MAX }
+    ensures exact { position < 2 ^ 63 → result ≡ end_of header.now position }
 {
-    position + 1 + header.length as u64 / 512
+    position.saturating_add(1 + header.length as u64 / 512)
 }
 
 // Whether the record whose header stands at `position` ends by `end`.

@@ -6,6 +6,6 @@ use Rattle.chain.proofs.rows.read_row.Given as goal
 
 abbrev pub invariant-loop-k : goal.invariant-loop-k
 invariant-loop-k g l =
-    let s = g.D.Device.state l.device in
-    let L = l.geometry.label in
+    let s = g.D.Device.state l.log.device.now in
+    let L = l.log.geometry.label in
     Each s L l.first l.k × (l.buffer ≡ over l.k (joined (row s L l.first l.k)) l.initial.buffer) × (length (joined (row s L l.first l.k)) ≡ 512 * l.k)
