@@ -1,7 +1,10 @@
 -- One more turn of a run of writes. Assumes nothing.
 use Rattle.std.proofs.Common.{◌≡◌, ℕ, ◌+◌, ◌<◌, List, [], ◌∷◌, map, replicate, Option, Some, None, Ok, Err, Bor, sym, refl, ap, ◌∙◌, subst, ⊎_elim, suc, zero, arith}
 use Rattle.std.proofs.lemmas.Bool.{le-ltb, cases_lt}
+use Rattle.std.proofs.lemmas.Iterator.{YieldsList-from_slice}
 use Rattle.std.proofs.lemmas.Iterator.Adapters.{YieldsList-from_repeat_n}
+use Rattle.std.specs.declared.slice.Iter.{Iter}
+use Rattle.std.specs.Slice.Iter.{iter_rest, iter_steps}
 use Rattle.std.specs.Iterator.{AlwaysYields}
 use Rattle.std.specs.Iterator.Adapters.{repeat_n_item, repeat_n_count, repeat_n_steps}
 use Rattle.std.specs.declared.iter.RepeatN.{RepeatN}
@@ -67,3 +70,7 @@ pub repeated : (n : ℕ) (b : Bor (List ℕ)) (s : RepeatN (Bor (List ℕ))) →
 repeated n b s p q =
     let y = YieldsList-from_repeat_n {s = s} (λ x y. y ≡ x) n b p q (λ y k. k) in
     subst (AlwaysYields (repeat_n_steps (λ x y. y ≡ x)) (λ x. x.now) s) (map-replicate (λ x. x.now) n b) (seen (repeat_n_steps (λ x y. y ≡ x)) (λ x. x.now) s (replicate n b) y.runs)
+
+-- a walk over sectors gives each of them
+pub slice_yields : (bs : List (List ℕ)) (s : Iter (List ℕ)) → iter_rest s ≡ bs → AlwaysYields iter_steps (λ b. b.now) s bs
+slice_yields bs s e = (YieldsList-from_slice bs e).runs

@@ -26,6 +26,7 @@ fn write_each<'a, D: Device, I: Iterator<Item = &'a [u8; 512]> + Drop>(
 }
 
 // Writes the sectors from `first` on.
+#[tactic(auto, using(crate::proofs::Turns::slice_yields))]
 pub fn write_range<D: Device>(
     d: &mut D,
     first: u64,

@@ -22,7 +22,8 @@ pub fn label_volume<D: Device>(device: &mut D, label: Label) -> Result<(), Fault
     ensures made { result ≡ Ok tt → Labelled label (D.state device.old) (D.state device.new) }
     ensures kept { D.kept device.old device.new }
 {
-    let geometry = geometry_of(label, device.size()).ok_or(Fault::Label)?;
+    let size = device.size();
+    let geometry = geometry_of(label, size).ok_or(Fault::Label)?;
     Ok(write_label(device, geometry)?)
 }
 

@@ -11,7 +11,7 @@ returns-in_err-write_label-clause-call g c =
     let s = S c.args.device.now in
     let e = S c.write_label.new.device in
     let p = err_from_is_err_and c.from_residual-in_err-write_label.result c.from_residual-in_err-write_label.ensures.1 in
-    let w = within c.geometry_of.result c.in_ok-geometry.geometry _ c.args.label c.size.result s.size c.size.ensures c.geometry_of.ensures (sym c.ok_or.ensures.value ∙ c.in_ok-geometry.was) in
+    let w = within c.geometry_of.result c.in_ok-geometry.geometry _ c.args.label c.size-size.result s.size c.size-size.ensures c.geometry_of.ensures (sym c.ok_or.ensures.value ∙ c.in_ok-geometry.was) in
     labelled s e c.args.label c.in_ok-geometry.geometry.label c.write_label.result w.0 w.1 c.write_label.ensures.ran
     ∙ ap (λ r. left (told r) e) c.in_err-write_label.was ∙ ap (λ f. left (outcome (Err f)) e) (sym p.2) ∙ ap (λ r. left (outcome r) e) (sym p.1)
 
@@ -20,7 +20,7 @@ returns-clause-call g c =
     let S = g.D.Device.state in
     let s = S c.args.device.now in
     let e = S c.write_label.new.device in
-    let w = within c.geometry_of.result c.in_ok-geometry.geometry _ c.args.label c.size.result s.size c.size.ensures c.geometry_of.ensures (sym c.ok_or.ensures.value ∙ c.in_ok-geometry.was) in
+    let w = within c.geometry_of.result c.in_ok-geometry.geometry _ c.args.label c.size-size.result s.size c.size-size.ensures c.geometry_of.ensures (sym c.ok_or.ensures.value ∙ c.in_ok-geometry.was) in
     labelled s e c.args.label c.in_ok-geometry.geometry.label c.write_label.result w.0 w.1 c.write_label.ensures.ran ∙ ap (λ r. left (told r) e) c.in_ok-write_label.was
 
 pub returns-clause-made : goal.returns-clause-made
@@ -28,5 +28,5 @@ returns-clause-made g c =
     let S = g.D.Device.state in
     let s = S c.args.device.now in
     let e = S c.write_label.new.device in
-    let w = within c.geometry_of.result c.in_ok-geometry.geometry _ c.args.label c.size.result s.size c.size.ensures c.geometry_of.ensures (sym c.ok_or.ensures.value ∙ c.in_ok-geometry.was) in
+    let w = within c.geometry_of.result c.in_ok-geometry.geometry _ c.args.label c.size-size.result s.size c.size-size.ensures c.geometry_of.ensures (sym c.ok_or.ensures.value ∙ c.in_ok-geometry.was) in
     λ _. made_from s e c.args.label c.in_ok-geometry.geometry.label w.0 w.1 (g.D.Device.sized c.args.device.now) (c.write_label.ensures.ran ∙ ap (λ r. ran r e) c.in_ok-write_label.was)
