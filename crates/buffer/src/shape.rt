@@ -1,7 +1,7 @@
 // What a buffer asks, by its fields, its map and its regions.
-ghost use Rattle.std.specs.Prelude.{◌≡◌, ◌+◌, ◌*◌, ◌&&◌, length, drop, ◌==◌};
-ghost use Rattle.codec.specs.Fields.{le32};
-ghost use Rattle.item.specs.Buffer.{map_bits, none_set, buffer_length, map_words, buffer_meaning};
+ghost use Rattle.std.specs.Prelude.{◌≡◌, ◌+◌, ◌*◌, ◌≤◌, ◌&&◌, length, drop, ◌==◌};
+ghost use Rattle.codec.specs.Fields.{le16, le32};
+ghost use Rattle.item.specs.Buffer.{map_bits, none_set, buffer_length, map_words, flagged, buffer_meaning};
 ghost use Rattle.item.specs.Classes.{class_of};
 ghost use Rattle.item.specs.Items.{regions_of};
 
@@ -29,23 +29,29 @@ fn has_sound_map(head: &[u8]) -> bool
         && Map::of(head).none_set(4 * length, 32 * words)
 }
 
-// What a buffer asks.
-pub(crate) fn classify(item: Item<'_>) -> Class
-    ensures { result ≡ class_of (buffer_meaning (regions_of item.entry)) }
+// What a buffer of a right length asks, by its flags.
+fn flagged(head: &[u8], rest: Item<'_>) -> Class
+    requires { buffer_length head.now ≤ 64 }
+    ensures { result ≡ class_of (flagged (le16 head.now 4) head.now (regions_of rest.entry)) }
 {
-    let head = item.region(0);
-    let rest = item.rest();
-    let length = u16::le_at(head, 6);
-    if head.len() < 20 || !(1..=64).contains(&length) {
-        return Class::Malformed;
-    }
     let key = PatchKey {
         sector: i64::le_at(head, 8),
-        length: u32::from(length),
+        length: u32::from(u16::le_at(head, 6)),
     };
     match u16::le_at(head, 4) {
         CANCEL if rest.count() == 0 => Class::Cancel(key),
         PATCH if has_sound_map(head) && runs_match(Map::of(head), rest) => Class::Patch(key),
         _ => Class::Malformed,
     }
+}
+
+// What a buffer asks.
+pub(crate) fn classify(item: Item<'_>) -> Class
+    ensures { result ≡ class_of (buffer_meaning (regions_of item.entry)) }
+{
+    let head = item.region(0);
+    if head.len() < 20 || !(1..=64).contains(&u16::le_at(head, 6)) {
+        return Class::Malformed;
+    }
+    flagged(head, item.rest())
 }

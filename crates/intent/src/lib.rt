@@ -64,10 +64,10 @@ impl ItemKind for FreeIntents {
     }
 
     fn classify(&self, item: Item<'_>) -> Class {
-        match item.places {
-            [place] => intent_class(place.region(item.bytes)),
-            _ => Class::Malformed,
+        if item.count() != 1 {
+            return Class::Malformed;
         }
+        intent_class(item.region(0))
     }
 
     fn covers(&self, _item: Item<'_>, _j: usize) -> bool {
