@@ -1,46 +1,39 @@
 -- Positions read one after the other. Assumes nothing.
-use Rattle.std.proofs.Common.{◌≡◌, ℕ, zero, suc, ◌+◌, ◌<◌, List, [], ◌++◌, Ok, Err, Result, sym, refl, ap, ◌∙◌, inl, inr, append_assoc, append-nil, arith}
-use Rattle.std.proofs.lemmas.Bool.{cases_lt}
+use Rattle.std.proofs.Common.{◌≡◌, ℕ, zero, suc, ◌+◌, ◌<◌, List, [], ◌++◌, Ok, Err, Result, sym, refl, ap, ◌∙◌, append_assoc, append-nil, arith}
 use Rattle.codec.specs.Fields.{joined}
 use Rattle.device.specs.State.{DevState, sector_at, bytes_of}
 use Rattle.device.specs.Steps.{read, then_read, then_rest}
 use Rattle.device.specs.declared.fault.DeviceFault.{DeviceFault}
 use Rattle.label.specs.declared.label.Label.{Label}
 use Rattle.label.specs.Position.{volume_sector}
-use Rattle.volume_log.proofs.Rows.{not_both, read_holds}
+use Rattle.volume_log.proofs.Outcomes.{not_both}
+use Rattle.volume_log.proofs.Rows.{Each, each_first, each_next, read_holds}
 use Rattle.chain.specs.Rows.{row, told, sectors_on, one_more, read_before}
 
 -- the bytes at position x
 abbrev pub bytes_at : DevState → Label → ℕ → List ℕ
 bytes_at d L x = bytes_of (sector_at d (volume_sector L x))
 
--- the first n positions from x on can be read
-abbrev pub Each : DevState → Label → ℕ → ℕ → Type 0
-Each d L x n = (k : ℕ) → k < n → read d (volume_sector L (x + k)) ≡ Ok (bytes_at d L (x + k))
+-- the sectors of the positions from x on
+abbrev pub along : Label → ℕ → ℕ → ℕ
+along L x k = volume_sector L (x + k)
 
-pub each_more : (d : DevState) (L : Label) (x n : ℕ) (b : List ℕ) → Each d L x n → read d (volume_sector L (x + n)) ≡ Ok b → Each d L x (n + 1)
-each_more d L x n b h e k l = elim (cases_lt k n) [ inl t ↦ h k t | inr t ↦ let q : k ≡ n = omega arith in rw q (e ∙ ap Ok (read_holds d (volume_sector L (x + n)) b e)) ]
+along_next : (L : Label) (x k : ℕ) → along L x (suc k) ≡ along L (x + 1) k
+along_next L x k = let e : x + suc k ≡ x + 1 + k = omega arith in ap (volume_sector L) e
 
-each_next : (d : DevState) (L : Label) (x n : ℕ) → Each d L x (suc n) → Each d L (x + 1) n
-each_next d L x n h k l =
-    let e : x + suc k ≡ x + 1 + k = omega arith in
-    ap (λ y. read d (volume_sector L y)) (sym e) ∙ h (suc k) (omega arith) ∙ ap (λ y. Ok (bytes_at d L y)) e
-
-each_first : (d : DevState) (L : Label) (x n : ℕ) → Each d L x (suc n) → read d (volume_sector L x) ≡ Ok (bytes_at d L x)
-each_first d L x n h =
-    let e : x + 0 ≡ x = omega arith in
-    ap (λ y. read d (volume_sector L y)) (sym e) ∙ h 0 (omega arith) ∙ ap (λ y. Ok (bytes_at d L y)) e
+along_first : (L : Label) (x : ℕ) → along L x 0 ≡ volume_sector L x
+along_first L x = let e : x + 0 ≡ x = omega arith in ap (volume_sector L) e
 
 -- all of them are read
-pub on_all : (d : DevState) (L : Label) (x n : ℕ) → Each d L x n → (sectors_on d L x n ≡ Ok (row d L x n)) × (read_before d L x n ≡ n)
+pub on_all : (d : DevState) (L : Label) (x n : ℕ) → Each d (along L x) n → (sectors_on d L x n ≡ Ok (row d L x n)) × (read_before d L x n ≡ n)
 on_all d L x zero h = (refl, refl)
 on_all d L x (suc n) h =
-    let f = each_first d L x n h in
-    let r = on_all d L (x + 1) n (each_next d L x n h) in
+    let f = each_first d (along L x) n (volume_sector L x) (along_first L x) h in
+    let r = on_all d L (x + 1) n (each_next d (along L x) (along L (x + 1)) n (along_next L x) h) in
     (ap (λ y. then_read y (sectors_on d L (x + 1) n)) f ∙ ap (then_rest (bytes_at d L x)) r.0, ap (λ y. one_more y (read_before d L (x + 1) n)) f ∙ ap suc r.1)
 
 -- or those before the first refusal
-pub on_stop : (d : DevState) (L : Label) (x n j : ℕ) (f : DeviceFault) → j < n → Each d L x j → read d (volume_sector L (x + j)) ≡ Err f → (sectors_on d L x n ≡ Err f) × (read_before d L x n ≡ j)
+pub on_stop : (d : DevState) (L : Label) (x n j : ℕ) (f : DeviceFault) → j < n → Each d (along L x) j → read d (volume_sector L (x + j)) ≡ Err f → (sectors_on d L x n ≡ Err f) × (read_before d L x n ≡ j)
 on_stop d L x zero j f l h e = absurd (omega arith)
 on_stop d L x (suc n) zero f l h e =
     let z : x + 0 ≡ x = omega arith in
@@ -48,8 +41,8 @@ on_stop d L x (suc n) zero f l h e =
     (ap (λ y. then_read y (sectors_on d L (x + 1) n)) g, ap (λ y. one_more y (read_before d L (x + 1) n)) g)
 on_stop d L x (suc n) (suc j) f l h e =
     let z : x + suc j ≡ x + 1 + j = omega arith in
-    let g = each_first d L x j h in
-    let r = on_stop d L (x + 1) n j f (omega arith) (each_next d L x j h) (ap (λ y. read d (volume_sector L y)) (sym z) ∙ e) in
+    let g = each_first d (along L x) j (volume_sector L x) (along_first L x) h in
+    let r = on_stop d L (x + 1) n j f (omega arith) (each_next d (along L x) (along L (x + 1)) j (along_next L x) h) (ap (λ y. read d (volume_sector L y)) (sym z) ∙ e) in
     (ap (λ y. then_read y (sectors_on d L (x + 1) n)) g ∙ ap (then_rest (bytes_at d L x)) r.0, ap (λ y. one_more y (read_before d L (x + 1) n)) g ∙ ap suc r.1)
 
 -- one position more

@@ -88,7 +88,7 @@ pub fn put_record(
         return Err(Fail::new("no such tail"));
     };
     let sectors = record_at(geometry, own, oldest);
-    Ok(write_range(volume, 32 + position % 32, &sectors)?)
+    Ok(write_range(volume, geometry.sector_of(position), &sectors)?)
 }
 
 // The refusal has this number and names this sector.

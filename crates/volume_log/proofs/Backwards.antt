@@ -1,5 +1,5 @@
 -- The way back from the head. Assumes nothing.
-use Rattle.std.proofs.Common.{◌≡◌, ℕ, zero, suc, ◌+◌, ◌-◌, ◌<◌, ◌≤◌, Bool, true, false, cond, not, ◌&&◌, ◌||◌, leb, List, Ok, Err, sym, refl, ap, ◌∙◌, arith}
+use Rattle.std.proofs.Common.{◌≡◌, ℕ, zero, suc, ◌+◌, ◌-◌, ◌<◌, Bool, true, false, cond, not, ◌&&◌, ◌||◌, leb, List, Ok, Err, sym, refl, ap, ◌∙◌, arith}
 use Rattle.label.specs.declared.label.Label.{Label}
 use Rattle.label.specs.Position.{volume_sector}
 use Rattle.record.specs.Record.{is_header, header_of, sound, end_of}
@@ -34,9 +34,6 @@ back_step L log h low x v l e =
     let p : low + (x - 1 - low) ≡ x - 1 = omega arith in
     let older = newest_of L log h low (x - 1 - low) in
     ap (newest_of L log h low) n ∙ back_at L log h low (x - 1 - low) ∙ ap (λ y. after_look (look_at L h y (at L log y)) y older) p ∙ ap (λ w. after_look w (x - 1) older) e
-
-pub back_none : (L : Label) (log : List (List ℕ)) (h low x : ℕ) → x ≤ low → newest_of L log h low (x - low) ≡ Err (refusal 6 by_record 0 0)
-back_none L log h low x l = let e : x - low ≡ 0 = omega arith in ap (newest_of L log h low) e
 
 below : (v : Outcome Bool) (x n : ℕ) (older : Outcome ℕ) → (older ≡ Ok n → n < x) → after_look v x older ≡ Ok n → n < suc x
 below (Ok false) x n older k e = omega (arith, k e)

@@ -1,5 +1,5 @@
+pub mod Outcomes
 pub mod Rows
 pub mod Ordered
 pub mod Window
 pub mod Backwards
-pub mod Steps

@@ -1,5 +1,5 @@
 -- Sectors read one after the other, and the list of them. Assumes nothing.
-use Rattle.std.proofs.Common.{◌≡◌, ℕ, zero, suc, ◌+◌, ◌-◌, ◌<◌, ◌≤◌, max, Bool, true, false, cond, ltb, List, [], ◌∷◌, get_or, Ok, Err, Result, sym, refl, ap, ◌∙◌, inl, inr, arith}
+use Rattle.std.proofs.Common.{◌≡◌, ℕ, zero, suc, ◌+◌, ◌-◌, ◌<◌, ◌≤◌, max, Bool, true, false, cond, ltb, List, [], get_or, Ok, Err, Result, sym, refl, ap, ◌∙◌, inl, inr, arith}
 use Rattle.std.proofs.Math.Nat.{mod-eq_of_lt, mod-lt}
 use Rattle.std.proofs.lemmas.Bool.{cases_lt}
 use Rattle.device.specs.State.{DevState, Sector, holds, unreadable, sector_at, bytes_of}
@@ -11,11 +11,8 @@ use Rattle.label.specs.declared.label.Label.{Label}
 use Rattle.label.specs.Position.{volume_sector, log_sector}
 use Rattle.record.specs.Record.{held_position}
 use Rattle.model.specs.View.{at, held_by, greatest_of, greatest}
+use Rattle.volume_log.proofs.Outcomes.{not_both}
 use Rattle.volume_log.specs.Sectors.{sectors_of, log_of, Readable, greatest_on}
-
--- a value is no refusal
-pub not_both : {A B : Type 0} (r : Result A DeviceFault) (x : A) (f : DeviceFault) → r ≡ Ok x → r ≡ Err f → B
-not_both r x f p q = let e : ◌≡◌ {A = Result _ DeviceFault} (Ok x) (Err f) = sym p ∙ q in let z : ◌≡◌ {A = ℕ} 0 1 = cc in let y : ⊥ = omega arith in absurd y
 
 -- what was read is what the sector holds
 pub read_holds : (d : DevState) (i : ℕ) (b : List ℕ) → read d i ≡ Ok b → b ≡ bytes_of (sector_at d i)
@@ -26,45 +23,40 @@ read_holds d i b e = go (ltb i d.size) (sector_at d i) e
     go true unreadable e = not_both (Ok b) b _ refl (sym e)
     go false c e = not_both (Ok b) b _ refl (sym e)
 
--- the first n sectors from a on can be read
-abbrev pub Each : DevState → ℕ → ℕ → Type 0
-Each d a n = (k : ℕ) → k < n → read d (a + k) ≡ Ok (bytes_of (sector_at d (a + k)))
+-- each of the first n of some sectors can be read
+abbrev pub Each : DevState → (ℕ → ℕ) → ℕ → Type 0
+Each d p n = (k : ℕ) → k < n → read d (p k) ≡ Ok (bytes_of (sector_at d (p k)))
 
-pub each_more : (d : DevState) (a n : ℕ) (b : List ℕ) → Each d a n → read d (a + n) ≡ Ok b → Each d a (n + 1)
-each_more d a n b h e k l = elim (cases_lt k n) [ inl t ↦ h k t | inr t ↦ let q : k ≡ n = omega arith in rw q (e ∙ ap Ok (read_holds d (a + n) b e)) ]
+pub each_more : (d : DevState) (p : ℕ → ℕ) (n : ℕ) (b : List ℕ) → Each d p n → read d (p n) ≡ Ok b → Each d p (n + 1)
+each_more d p n b h e k l = elim (cases_lt k n) [ inl t ↦ h k t | inr t ↦ let q : k ≡ n = omega arith in rw q (e ∙ ap Ok (read_holds d (p n) b e)) ]
 
-each_next : (d : DevState) (a n : ℕ) → Each d a (suc n) → Each d (a + 1) n
-each_next d a n h k l = let e : a + suc k ≡ a + 1 + k = omega arith in ap (read d) (sym e) ∙ h (suc k) (omega arith) ∙ ap (λ i. Ok (bytes_of (sector_at d i))) e
+pub each_next : (d : DevState) (p q : ℕ → ℕ) (n : ℕ) → ((k : ℕ) → p (suc k) ≡ q k) → Each d p (suc n) → Each d q n
+each_next d p q n z h k l = ap (read d) (sym (z k)) ∙ h (suc k) (omega arith) ∙ ap (λ i. Ok (bytes_of (sector_at d i))) (z k)
 
-each_first : (d : DevState) (a n : ℕ) → Each d a (suc n) → read d a ≡ Ok (bytes_of (sector_at d a))
-each_first d a n h = let e : a + 0 ≡ a = omega arith in ap (read d) (sym e) ∙ h 0 (omega arith) ∙ ap (λ i. Ok (bytes_of (sector_at d i))) e
+pub each_first : (d : DevState) (p : ℕ → ℕ) (n i : ℕ) → p 0 ≡ i → Each d p (suc n) → read d i ≡ Ok (bytes_of (sector_at d i))
+each_first d p n i z h = ap (read d) (sym z) ∙ h 0 (omega arith) ∙ ap (λ i. Ok (bytes_of (sector_at d i))) z
+
+-- the sectors from a on
+abbrev pub along : ℕ → ℕ → ℕ
+along a k = a + k
+
+along_next : (a k : ℕ) → along a (suc k) ≡ along (a + 1) k
+along_next a k = omega arith
 
 -- all of them are read, or the first refusal stands
-pub reads_all : (d : DevState) (a n : ℕ) → Each d a n → reads d a n ≡ Ok (sectors_of d a n)
+pub reads_all : (d : DevState) (a n : ℕ) → Each d (along a) n → reads d a n ≡ Ok (sectors_of d a n)
 reads_all d a zero h = refl
-reads_all d a (suc n) h = ap (λ r. then_read r (reads d (a + 1) n)) (each_first d a n h) ∙ ap (then_rest (bytes_of (sector_at d a))) (reads_all d (a + 1) n (each_next d a n h))
+reads_all d a (suc n) h =
+    ap (λ r. then_read r (reads d (a + 1) n)) (each_first d (along a) n a (omega arith) h)
+    ∙ ap (then_rest (bytes_of (sector_at d a))) (reads_all d (a + 1) n (each_next d (along a) (along (a + 1)) n (along_next a) h))
 
-pub reads_stop : (d : DevState) (a n j : ℕ) (f : DeviceFault) → j < n → Each d a j → read d (a + j) ≡ Err f → reads d a n ≡ Err f
+pub reads_stop : (d : DevState) (a n j : ℕ) (f : DeviceFault) → j < n → Each d (along a) j → read d (a + j) ≡ Err f → reads d a n ≡ Err f
 reads_stop d a zero j f l h e = absurd (omega arith)
 reads_stop d a (suc n) zero f l h e = let z : a + 0 ≡ a = omega arith in ap (λ r. then_read r (reads d (a + 1) n)) (ap (read d) (sym z) ∙ e)
 reads_stop d a (suc n) (suc j) f l h e =
     let z : a + suc j ≡ a + 1 + j = omega arith in
-    ap (λ r. then_read r (reads d (a + 1) n)) (each_first d a j h)
-    ∙ ap (then_rest (bytes_of (sector_at d a))) (reads_stop d (a + 1) n j f (omega arith) (each_next d a j h) (ap (read d) (sym z) ∙ e))
-
-rests : (b : List ℕ) (r : Result (List (List ℕ)) DeviceFault) (bs cs : List (List ℕ)) → ((xs : List (List ℕ)) → r ≡ Ok xs → xs ≡ cs) → then_rest b r ≡ Ok bs → bs ≡ b ∷ cs
-rests b (Ok xs) bs cs h e = let q : b ∷ xs ≡ bs = cc in sym q ∙ ap (λ y. b ∷ y) (h xs refl)
-rests b (Err f) bs cs h e = not_both (Ok bs) bs f refl (sym e)
-
-firsts : (r : Result (List ℕ) DeviceFault) (c : List ℕ) (q : Result (List (List ℕ)) DeviceFault) (bs cs : List (List ℕ)) → ((b : List ℕ) → r ≡ Ok b → b ≡ c) → ((xs : List (List ℕ)) → q ≡ Ok xs → xs ≡ cs)
-    → then_read r q ≡ Ok bs → bs ≡ c ∷ cs
-firsts (Ok b) c q bs cs h k e = rests b q bs cs k e ∙ ap (λ y. y ∷ cs) (h b refl)
-firsts (Err f) c q bs cs h k e = not_both (Ok bs) bs f refl (sym e)
-
--- what was read is the list of the sectors
-pub reads_are : (d : DevState) (a n : ℕ) (bs : List (List ℕ)) → reads d a n ≡ Ok bs → bs ≡ sectors_of d a n
-reads_are d a zero bs e = cc
-reads_are d a (suc n) bs e = firsts (read d a) (bytes_of (sector_at d a)) (reads d (a + 1) n) bs (sectors_of d (a + 1) n) (λ b. read_holds d a b) (λ xs. reads_are d (a + 1) n xs) e
+    ap (λ r. then_read r (reads d (a + 1) n)) (each_first d (along a) j a (omega arith) h)
+    ∙ ap (then_rest (bytes_of (sector_at d a))) (reads_stop d (a + 1) n j f (omega arith) (each_next d (along a) (along (a + 1)) j (along_next a) h) (ap (read d) (sym z) ∙ e))
 
 -- the sector at a place of the list
 pub list_at : (d : DevState) (a n k : ℕ) → k < n → get_or (sectors_of d a n) k [] ≡ bytes_of (sector_at d (a + k))
@@ -88,7 +80,7 @@ greatest_more d L i m m' p b l e a h q =
     q ∙ ap (λ x. max x p) a ∙ ap (max (greatest_of L (log_of d L) i)) (h ∙ ap (held_position L i) (log_at d L i b l e)) ∙ ap (greatest_of L (log_of d L)) (sym s)
 
 -- all sectors were looked at
-pub greatest_all : (d : DevState) (L : Label) (i m : ℕ) → i ≡ L.count → Each d L.start i → m ≡ greatest_of L (log_of d L) i → Readable d L × (m ≡ greatest_on d L)
+pub greatest_all : (d : DevState) (L : Label) (i m : ℕ) → i ≡ L.count → Each d (along L.start) i → m ≡ greatest_of L (log_of d L) i → Readable d L × (m ≡ greatest_on d L)
 greatest_all d L i m e h q = (reads_all d L.start L.count (λ k l. h k (omega arith)), q ∙ ap (greatest_of L (log_of d L)) e)
 
 at_most : (L : Label) (log : List (List ℕ)) (n k : ℕ) → k < n → held_by L log k ≤ greatest_of L log n
@@ -103,7 +95,3 @@ greatest_least L log h = omega (arith, at_most L log L.count (L.count - 1) (omeg
 -- a sector of a log that can be read
 pub read_at : (d : DevState) (L : Label) (x : ℕ) → 0 < L.count → Readable d L → read d (volume_sector L x) ≡ Ok (at L (log_of d L) x)
 read_at d L x l r = (reads_each d L.start L.count (log_of d L) r).1 (log_sector L x) (mod-lt x l)
-
--- a call gives one value
-pub one_value : {A : Type 0} (r : Result A DeviceFault) (x y : A) → r ≡ Ok x → r ≡ Ok y → x ≡ y
-one_value r x y a b = cc

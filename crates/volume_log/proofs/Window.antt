@@ -13,12 +13,6 @@ free_goes L log n x l h = sym (free_step L log n x l ∙ ap (λ t. cond t (first
 pub free_here : (L : Label) (log : List (List ℕ)) (n x : ℕ) → x < n → held L log x ≡ false → first_free L log x (n - x) ≡ x
 free_here L log n x l h = free_step L log n x l ∙ ap (λ t. cond t (first_free L log (x + 1) (n - (x + 1))) x) h
 
-pub free_none : (L : Label) (log : List (List ℕ)) (n x : ℕ) → n ≤ x → first_free L log x (n - x) ≡ x
-free_none L log n x l = let e : n - x ≡ 0 = omega arith in ap (first_free L log x) e
-
-pub free_begins : (L : Label) (log : List (List ℕ)) (x n : ℕ) → first_free L log x (x + n - x) ≡ first_free L log x n
-free_begins L log x n = let e : x + n - x ≡ n = omega arith in ap (first_free L log x) e
-
 free_le : (L : Label) (log : List (List ℕ)) (x n : ℕ) → first_free L log x n ≤ x + n
 free_le L log x zero = omega arith
 free_le L log x (suc n) = cond_both (held L log x) (first_free L log (x + 1) n) x (λ y. y ≤ x + suc n) (λ _. omega (arith, free_le L log (x + 1) n)) (λ _. omega arith)

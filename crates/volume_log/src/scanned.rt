@@ -20,8 +20,8 @@ use record::heading::{held_cycle, held_position};
 // A log that can be read, and the greatest position that it holds.
 #[derive(Drop)]
 pub(crate) struct Scanned<'a, D: Device> {
-    pub log: Log<'a, D>,
-    pub greatest: u64,
+    log: Log<'a, D>,
+    greatest: u64,
     ghost readable: { Readable (D.state log.device.now) log.geometry.label },
     ghost is: { greatest ≡ greatest_on (D.state log.device.now) log.geometry.label },
     ghost least: { log.geometry.label.count ≤ greatest + 1 },

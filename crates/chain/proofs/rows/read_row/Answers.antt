@@ -6,7 +6,8 @@ use Rattle.device.specs.Steps.{read}
 use Rattle.device.proofs.Reading.{read_ok, read_err}
 use Rattle.label.specs.Position.{volume_sector}
 use Rattle.chain.specs.Rows.{row, told, sectors_on, read_before, over}
-use Rattle.chain.proofs.Positions.{each_more, on_all, on_stop}
+use Rattle.volume_log.proofs.Rows.{each_more}
+use Rattle.chain.proofs.Positions.{along, on_all, on_stop}
 use Rattle.chain.proofs.Laid.{row_more}
 use Rattle.chain.proofs.rows.read_row.Goals as goal
 use borrow.Rule.Slice.PartMut.{put_mid, put_same}
@@ -22,7 +23,7 @@ loop-k-preserved g c =
     let e : read s i ≡ Ok out = read_ok (read s i) _ (sym c.read_over.ensures.answer ∙ c.in_ok-read_over.was) ∙ ap Ok (sym c.read_over.ensures.bytes) in
     let m : length out ≡ 512 = omega (arith, length-take (512 * (k + 1) - 512 * k) (drop (512 * k) c.loop-k.buffer), length-drop (512 * k) c.loop-k.buffer) in
     let r = row_more s L x k out c.args.buffer.now c.loop-k.buffer e m c.loop-k.invariant.2 c.loop-k.invariant.1 in
-    (each_more s L x k out c.loop-k.invariant.0 e, r.0, r.1)
+    (each_more s (along L x) k out c.loop-k.invariant.0 e, r.0, r.1)
 
 pub returns-in_err-read_over : goal.returns-in_err-read_over
 returns-in_err-read_over g c =

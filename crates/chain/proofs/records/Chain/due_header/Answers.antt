@@ -1,7 +1,7 @@
 use Rattle.std.proofs.Common.{◌≤◌, Err, sym, refl, ap, ◌∙◌, arith}
 use Rattle.std.proofs.lemmas.Result.{err_from_is_err_and}
 use Rattle.volume_log.specs.Faults.{meaning}
-use Rattle.volume_log.proofs.Steps.{refused, accepted}
+use Rattle.volume_log.proofs.Outcomes.{refused, accepted}
 use Rattle.chain.specs.Records.{due_answer}
 use Rattle.chain.proofs.Heads.{refused_on, found_on}
 use Rattle.chain.proofs.records.Chain.due_header.Goals as goal

@@ -1,7 +1,7 @@
 use Rattle.std.proofs.Common.{◌++◌, drop, Ok, Err, sym, ap, ◌∙◌}
 use Rattle.std.proofs.lemmas.Result.{err_from_is_err_and}
 use Rattle.volume_log.specs.Faults.{meaning, outcome}
-use Rattle.volume_log.proofs.Steps.{refused, accepted}
+use Rattle.volume_log.proofs.Outcomes.{refused, accepted}
 use Rattle.model.specs.Refusals.{◌>>=◌}
 use Rattle.record.specs.Record.{header_of}
 use Rattle.chain.specs.Records.{left, sum_answer, restored_data}

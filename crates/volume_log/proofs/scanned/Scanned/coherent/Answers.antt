@@ -2,7 +2,7 @@ use Rattle.std.proofs.Common.{◌+◌, Err, sym, ap, ◌∙◌}
 use Rattle.std.proofs.Math.Nat.{mod-eq_of_lt}
 use Rattle.model.specs.Refusals.{refusal, by_record}
 use Rattle.volume_log.specs.Sectors.{log_of, sector_in_order}
-use Rattle.volume_log.proofs.Rows.{one_value}
+use Rattle.volume_log.proofs.Outcomes.{one_value}
 use Rattle.volume_log.proofs.Ordered.{order_goes, order_stops, own_order}
 use Rattle.volume_log.proofs.scanned.Scanned.coherent.Goals as goal
 

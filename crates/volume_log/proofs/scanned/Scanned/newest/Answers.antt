@@ -1,12 +1,12 @@
-use Rattle.std.proofs.Common.{◌≡◌, ◌+◌, ◌-◌, ◌<◌, ◌≤◌, Bool, true, false, Ok, Err, Result, sym, ap, ◌∙◌, arith}
+use Rattle.std.proofs.Common.{◌≡◌, ◌+◌, ◌-◌, ◌<◌, Bool, true, false, Ok, Err, Result, sym, ap, ◌∙◌, arith}
 use Rattle.std.proofs.lemmas.Result.{err_from_is_err_and}
 use Rattle.model.specs.View.{newest_of, newest}
 use Rattle.volume_log.specs.declared.cause.LogFault.{LogFault}
 use Rattle.volume_log.specs.Faults.{outcome}
 use Rattle.volume_log.specs.Sectors.{log_of}
 use Rattle.volume_log.specs.Seeking.{look_at}
-use Rattle.volume_log.proofs.Rows.{one_value}
-use Rattle.volume_log.proofs.Backwards.{after_look, back_step, back_none}
+use Rattle.volume_log.proofs.Outcomes.{one_value}
+use Rattle.volume_log.proofs.Backwards.{after_look, back_step}
 use Rattle.volume_log.proofs.scanned.Scanned.newest.Given as given
 use Rattle.volume_log.proofs.scanned.Scanned.newest.Goals as goal
 use Rattle.volume_log.proofs.scanned.Scanned.newest.Goals.{After-look_at}
@@ -35,10 +35,3 @@ returns-in_err-look_at g c =
 
 pub returns-then-branch : goal.returns-then-branch
 returns-then-branch g c = step g (goal.at.returns-then-branch g c).After-look_at (Ok true) (c.in_ok-look_at.was ∙ ap Ok c.if-branch.true)
-
-pub returns : goal.returns
-returns g c =
-    let L = c.args.self.now.log.geometry.label in
-    let log = log_of (g.D.Device.state c.args.self.now.log.device.now) L in
-    let low : c.loop-position.position ≤ c.args.self.now.greatest + 1 - L.count = omega arith in
-    sym (back_none L log c.args.head (c.args.self.now.greatest + 1 - L.count) c.loop-position.position low) ∙ c.loop-position.invariant

@@ -2,7 +2,7 @@ use Rattle.std.proofs.Common.{◌≡◌, ◌+◌, ◌*◌, ◌^◌, ◌<◌, ap,
 use Rattle.std.proofs.lemmas.Nat.{mul-add-lt}
 use Rattle.std.proofs.lemmas.Result.{err_from_is_err_and}
 use Rattle.label.specs.Position.{position}
-use Rattle.volume_log.proofs.Rows.{read_own, reads_stop, each_more, greatest_more, greatest_all, greatest_least}
+use Rattle.volume_log.proofs.Rows.{along, read_own, reads_stop, each_more, greatest_more, greatest_all, greatest_least}
 use Rattle.volume_log.specs.Sectors.{log_of}
 use Rattle.volume_log.proofs.scanned.Scanned.of.Goals as goal
 
@@ -15,7 +15,7 @@ loop-i-preserved g c =
     let e = read_own s L i c.read.result _ c.loop-i-test.true c.read.ensures c.in_ok-sector.was in
     let small : c.held_cycle.result * L.count + i < L.count * 2 ^ 32 = mul-add-lt c.held_cycle.result L.count i (2 ^ 32) c.held_cycle.type_inv c.loop-i-test.true in
     let held = c.join.ensures ∙ ap (λ x. position L x i) c.held_cycle.ensures in
-    (each_more s L.start i b c.loop-i.invariant.0 e, greatest_more s L i c.loop-i.greatest _ _ b c.loop-i-test.true e c.loop-i.invariant.1 held c.max-greatest.ensures, omega (arith, c.join.ensures, c.max-greatest.ensures))
+    (each_more s (along L.start) i b c.loop-i.invariant.0 e, greatest_more s L i c.loop-i.greatest _ _ b c.loop-i-test.true e c.loop-i.invariant.1 held c.max-greatest.ensures, omega (arith, c.join.ensures, c.max-greatest.ensures))
 
 pub returns-in_err-sector : goal.returns-in_err-sector
 returns-in_err-sector g c =
