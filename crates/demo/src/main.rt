@@ -5,7 +5,7 @@ mod reading;
 mod telling;
 
 use crate::reading::tell_log;
-use crate::telling::tell_label;
+use crate::telling::tell_uuid;
 use device::interface::Device;
 use faults::refusal::Refusal;
 use journal::labels::label_volume;
@@ -18,6 +18,7 @@ use std::io;
 const SECTORS: usize = 64;
 
 // Sectors 32 to 63 are the log, `window` of them may be in flight, and a record has at most 4096 bytes of data.
+// Kept: each program and each crate of tests states its own volume, so that a change for one alters no other's output.
 fn label_with(window: u32) -> Label {
     Label {
         start: 32,
@@ -39,7 +40,8 @@ fn story(rt: &HostRuntime, window: u32, actions: u64) -> io::Result<()> {
 
 fn tell_labelling(rt: &HostRuntime, volume: &mut Memory, label: Label) -> io::Result<()> {
     tell_volume(rt, volume)?;
-    tell_label(rt, "labelling it", &label)?;
+    println!(rt; "labelling it: {label}")?;
+    tell_uuid(rt, &label)?;
     let actions = volume.actions_left();
     match label_volume(volume, label) {
         Ok(()) => tell_labelled(rt, volume, actions),

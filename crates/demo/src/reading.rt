@@ -1,5 +1,5 @@
 // A labelled volume read back: its label, the sectors of its log, its record.
-use crate::telling::{tell_bytes, tell_label};
+use crate::telling::{tell_bytes, tell_uuid};
 use device::interface::Device;
 use label::geometry::Geometry;
 use label::label::Label;
@@ -11,15 +11,16 @@ use record::heading::{held_cycle, held_position, is_header, sound};
 use std::io;
 use stored::saved::unpack;
 use stored::sum::checksum;
+use volume_log::sectors::read_sector;
 
 // Reads the label, the log and its first record.
 pub fn tell_log(rt: &HostRuntime, volume: &Memory) -> io::Result<()> {
-    let mut sector = [0u8; 512];
-    let Ok(()) = volume.read(0, &mut sector) else {
+    let Ok(sector) = read_sector(volume, 0) else {
         return rt.println("sector 0 cannot be read");
     };
     let label = Label::from(&sector);
-    tell_label(rt, "its label, read back", &label)?;
+    println!(rt; "its label, read back: {label}")?;
+    tell_uuid(rt, &label)?;
     match geometry_of(label, volume.size()) {
         Some(geometry) => {
             tell_sectors(rt, volume, geometry)?;
@@ -46,12 +47,11 @@ fn tell_sector(
     geometry: Geometry,
     index: u32,
 ) -> io::Result<()> {
-    let at = geometry.label.start as u64 + index as u64;
-    let mut sector = [0u8; 512];
-    match volume.read(at, &mut sector) {
+    let at = geometry.sector_of(index as u64);
+    match read_sector(volume, at) {
         Err(_) => println!(rt; "  volume sector {at} cannot be read"),
-        Ok(()) if held_cycle(&sector) == 0 => Ok(()),
-        Ok(()) => tell_held(rt, geometry, index, &sector),
+        Ok(sector) if held_cycle(&sector) == 0 => Ok(()),
+        Ok(sector) => tell_held(rt, geometry, index, &sector),
     }
 }
 
@@ -64,7 +64,7 @@ fn tell_held(
 ) -> io::Result<()> {
     println!(rt;
         "  volume sector {}, log sector {index}: {} of cycle {}, position {}",
-        geometry.label.start as u64 + index as u64,
+        geometry.sector_of(index as u64),
         if is_header(sector) { "header" } else { "data" },
         held_cycle(sector),
         held_position(geometry, index, sector)
@@ -73,13 +73,9 @@ fn tell_held(
 
 // The record on the first two sectors of the log.
 fn tell_record(rt: &HostRuntime, volume: &Memory, geometry: Geometry) -> io::Result<()> {
-    let start = geometry.label.start as u64;
-    let mut first = [0u8; 512];
-    let mut stored = [0u8; 512];
-    let (Ok(()), Ok(())) = (
-        volume.read(start, &mut first),
-        volume.read(start + 1, &mut stored),
-    ) else {
+    let start = geometry.start();
+    let (Ok(first), Ok(mut stored)) = (read_sector(volume, start), read_sector(volume, start + 1))
+    else {
         return rt.println("  its record cannot be read");
     };
     let header = RecordHeader::from(&first);

@@ -1,4 +1,4 @@
-// Labels and bytes in print.
+// Bytes in print.
 use label::label::Label;
 use std::io;
 
@@ -11,11 +11,7 @@ pub fn tell_bytes(rt: &HostRuntime, title: &str, bytes: &[u8]) -> io::Result<()>
     rt.println("")
 }
 
-// The fields of a label.
-pub fn tell_label(rt: &HostRuntime, title: &str, label: &Label) -> io::Result<()> {
-    println!(rt;
-        "{title}: log at {}, {} sectors, window {}, records of at most {} bytes",
-        label.start, label.count, label.window, label.most
-    )?;
+// The uuid of a label.
+pub fn tell_uuid(rt: &HostRuntime, label: &Label) -> io::Result<()> {
     tell_bytes(rt, "  uuid", &label.uuid)
 }

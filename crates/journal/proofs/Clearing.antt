@@ -3,9 +3,8 @@ use Rattle.std.proofs.Common.{◌≡◌, ℕ, ◌+◌, ◌*◌, ◌/◌, ◌%◌
 use lib.Arith.{digits_div, digits_mod}
 use Rattle.device.specs.Actions.{Action, write, writes}
 use Rattle.label.specs.declared.label.Label.{Label}
-use Rattle.record.specs.declared.header.RecordHeader.{RecordHeader}
 use Rattle.label.specs.Position.{position, place}
-use Rattle.record.specs.Record.{padded, whole_sectors, saved_words, stored, header_at, sealed}
+use Rattle.record.specs.Record.{padded, saved_words, stored, header_at, sealed, short_record}
 use Rattle.model.specs.Calls.{clearing_op, clearing, first_writes}
 
 -- a pair whose log sector lies in the log is the place of its position
@@ -17,19 +16,13 @@ placed L p low =
     let h : ℕ → ℕ × ℕ = λ v. ((p.0 * L.count + p.1) / L.count, v) in
     ap f a ∙ ap h b
 
--- what was packed and sealed step by step is the clearing record
-pub cleared : (L : Label) (p : ℕ × ℕ) (previous : ℕ) (h : RecordHeader) (d₀ d saved header : List ℕ) → p.1 < L.count →
-    d₀ ≡ padded clearing_op → saved ≡ saved_words (whole_sectors d₀) d₀ → d ≡ stored L (position L p.0 p.1 + 1) (whole_sectors d₀) d₀ →
-    h ≡ header_at L p p previous 1 1 → header ≡ sealed h saved d → header ∷ (d ∷ []) ≡ clearing L (position L p.0 p.1) previous
-cleared L p previous h d₀ d saved header low e₀ es ed eh e =
+-- a record with one data sector, the op of a clearing record, is the clearing record
+pub cleared : (L : Label) (p : ℕ × ℕ) (previous : ℕ) (d : List ℕ) → p.1 < L.count → d ≡ padded clearing_op
+    → short_record L p p previous 1 d ≡ clearing L (position L p.0 p.1) previous
+cleared L p previous d low e =
     let x = position L p.0 p.1 in
-    let W = saved_words 1 (padded clearing_op) in
     let S = stored L (x + 1) 1 (padded clearing_op) in
-    let w : saved ≡ W = es ∙ ap (λ b. saved_words (whole_sectors b) b) e₀ in
-    let s : d ≡ S = ed ∙ ap (λ b. stored L (x + 1) (whole_sectors b) b) e₀ in
-    let t : header ≡ sealed (header_at L (place L x) (place L x) previous 1 1) W S =
-    e ∙ ap (λ k. sealed k saved d) (eh ∙ ap (λ q. header_at L q q previous 1 1) (placed L p low)) ∙ ap (λ k. sealed (header_at L (place L x) (place L x) previous 1 1) k d) w ∙ ap (λ k. sealed (header_at L (place L x) (place L x) previous 1 1) W k) s in
-    ap (λ k. k ∷ (d ∷ [])) t ∙ ap (λ k. sealed (header_at L (place L x) (place L x) previous 1 1) W S ∷ (k ∷ [])) s
+    ap (short_record L p p previous 1) e ∙ ap (λ q. sealed (header_at L q q previous 1 1) (saved_words 1 (padded clearing_op)) S ∷ (S ∷ [])) (placed L p low)
 
 -- the first positions of cycle 1 lie on the first sectors of the log
 pub first_in_a_row : (L : Label) → 16 ≤ L.count → first_writes L ≡ writes L.start (clearing L (position L 1 0) 0xFFFFFFFF)

@@ -6,8 +6,7 @@ ghost use Rattle.model.specs.Calls.{clearing_op, clearing};
 
 use encode::fields::{PutNumber, put_bytes};
 use label::geometry::Geometry;
-use stored::heading::{header_at, sealed};
-use stored::saved::pack;
+use stored::short::short_record;
 
 // The data of a clearing record: one op of number 0, with no effect, then zeros.
 fn clearing_data() -> [u8; 512]
@@ -28,8 +27,5 @@ pub(crate) fn clearing_record(
     requires { place.1 < geometry.label.count }
     ensures { result ≡ clearing geometry.label (position geometry.label place.0 place.1) previous }
 {
-    let mut bytes = clearing_data();
-    let saved = pack(geometry, place, &mut bytes);
-    let header = header_at(geometry.label, place, place, previous, 1, 1);
-    [sealed(&header, &saved, &bytes), bytes]
+    short_record(geometry, place, place, previous, 1, clearing_data())
 }

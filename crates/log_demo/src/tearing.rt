@@ -4,20 +4,11 @@ use device::fault::DeviceFault;
 use device::interface::Device;
 use label::geometry::Geometry;
 use memory::ram::Memory;
-use stored::heading::{header_at, sealed};
-use stored::saved::pack;
+use stored::short::short_record;
 
-// The two sectors of a record of zeros, its tail at the first position of cycle 1.
-fn record_at(geometry: Geometry, own: (u32, u32)) -> [[u8; 512]; 2] {
-    let mut bytes = [0; 512];
-    let saved = pack(geometry, own, &mut bytes);
-    let header = header_at(geometry.label, own, (1, 0), 0, 0, 1);
-    [sealed(&header, &saved, &bytes), bytes]
-}
-
-// Writes one at a log sector, in cycle 1.
+// Writes a record of zeros at a log sector in cycle 1, its tail at the first position of that cycle.
 fn put_record(volume: &mut Memory, geometry: Geometry, index: u32) -> Result<(), DeviceFault> {
-    let sectors = record_at(geometry, (1, index));
+    let sectors = short_record(geometry, (1, index), (1, 0), 0, 0, [0; 512]);
     write_range(volume, geometry.start() + index as u64, &sectors)
 }
 

@@ -9,11 +9,11 @@ use memory::cell::blank_cells;
 use memory::ram::Memory;
 use std::process::Abort;
 use std::test::Fail;
-use stored::heading::{header_at, sealed};
-use stored::saved::pack;
+use stored::short::short_record;
 use volume_log::cause::LogFault;
 
 // Sectors 32 to 63 are the log, with a window of 16 and records of at most 4096 bytes.
+// Kept: each program and each crate of tests states its own volume, so that a change for one alters no other's output.
 const LABEL: Label = Label {
     start: 32,
     count: 32,
@@ -44,6 +44,7 @@ pub fn without(rt: &impl Abort, volume: Memory, sector: usize) -> Result<Memory,
 }
 
 // Changes a byte of a sector.
+// Kept: that of log_demo changes one byte of one number; shared it would be a public function with these five arguments for both.
 pub fn spoil(
     rt: &impl Abort,
     volume: &mut Memory,
@@ -66,28 +67,16 @@ pub fn put_cycle(rt: &impl Abort, volume: &mut Memory, index: u64, cycle: u8) ->
     Ok(volume.write(32 + index, &bytes)?)
 }
 
-// The two sectors of a record with its data full of sevens.
-fn record_at(geometry: Geometry, own: (u32, u32), tail: (u32, u32)) -> [[u8; 512]; 2] {
-    let mut bytes = [7; 512];
-    let saved = pack(geometry, own, &mut bytes);
-    let header = header_at(geometry.label, own, tail, 0, 0, 1);
-    [sealed(&header, &saved, &bytes), bytes]
-}
-
-// Writes such a record at an even position.
+// Writes a record with its data full of sevens at an even position.
 pub fn put_record(
     volume: &mut Memory,
     geometry: Geometry,
     position: u64,
     tail: u64,
 ) -> Result<(), Fail> {
-    let Some(own) = split(geometry, position) else {
-        return Err(Fail::new("no such position"));
-    };
-    let Some(oldest) = split(geometry, tail) else {
-        return Err(Fail::new("no such tail"));
-    };
-    let sectors = record_at(geometry, own, oldest);
+    let own = split(geometry, position).ok_or(Fail::new("no such position"))?;
+    let oldest = split(geometry, tail).ok_or(Fail::new("no such tail"))?;
+    let sectors = short_record(geometry, own, oldest, 0, 0, [7; 512]);
     Ok(write_range(volume, geometry.sector_of(position), &sectors)?)
 }
 

@@ -154,6 +154,13 @@ abbrev pub sectors : ℕ → List ℕ → List (List ℕ)
 sectors zero b = []
 sectors (suc n) b = take 512 b ∷ sectors n (drop 512 b)
 
+-- a record with one data sector of the bytes b, header first: its own place and its tail as pairs, the log sector of the record before
+-- and the number of ops; with the places of positions it is `packed` of its ops
+abbrev pub short_record : Label → ℕ × ℕ → ℕ × ℕ → ℕ → ℕ → List ℕ → List (List ℕ)
+short_record L own tail previous ops b =
+    let s = stored L (position L own.0 own.1 + 1) (whole_sectors b) b in
+    sealed (header_at L own tail previous ops 1) (saved_words (whole_sectors b) b) s ∷ (s ∷ [])
+
 -- the sectors of a record at position x, header first: its tail, the log sector of the record before, the number of ops and
 -- their bytes
 abbrev pub packed : Label → ℕ → ℕ → ℕ → ℕ → List ℕ → List (List ℕ)

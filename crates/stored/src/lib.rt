@@ -4,4 +4,5 @@
 
 pub mod heading;
 pub mod saved;
+pub mod short;
 pub mod sum;
