@@ -12,6 +12,9 @@ use item::kind::ItemKind;
 #[derive(Drop)]
 pub struct Buffers;
 
+// Kept: kinds are open, each with the numbers of its own types, so no enum has them all.
+const BUFFER: u16 = 0x123C;
+
 impl ItemKind for Buffers {
     ghost has = { λ n. (n == 0x123C) };
 
@@ -22,7 +25,7 @@ impl ItemKind for Buffers {
     ghost whole = { buffer_whole };
 
     fn has(&self, number: u16) -> bool {
-        number == 0x123C
+        number == BUFFER
     }
 
     fn is_early(&self) -> bool {

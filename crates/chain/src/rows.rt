@@ -22,7 +22,7 @@ fn read_over<D: Device>(log: &Log<D>, position: u64, bytes: &mut [u8]) -> Result
 }
 
 // Reads the sectors of the positions from `first` on into a buffer of whole sectors, up to the first that cannot be read.
-// Kept: an index, since `as_chunks_mut` and `chunks_exact_mut` say nothing of what the slice ends as.
+// Kept: the place by its number. A loop over `as_chunks_mut` was tried and not proved: no clause says what the buffer ends as.
 pub(crate) fn read_row<D: Device>(
     log: &Log<D>,
     first: u64,

@@ -33,6 +33,7 @@ impl Cause {
 
 impl DeviceFault {
     // The number under which a refusal is told.
+    // Kept: a refusal is known by its number in every rule and promise; the enum is what code goes by.
     pub fn number(&self) -> u8
         ensures { result ≡ cause_number self.now.cause }
     {

@@ -25,6 +25,7 @@ pub trait PutNumber: Number {
         ensures { b.new ≡ put b.old at (le_bytes Self.width (Self.bits self)) };
 }
 
+// Kept: a body for each type, since `to_be_bytes` is a method of each type and of no trait.
 impl PutNumber for u16 {
     fn put_be(self, b: &mut [u8], at: usize) {
         put_bytes(b, at, &u16::to_be_bytes(self));

@@ -12,6 +12,7 @@ pub enum Layer {
 }
 
 // A refusal: its number from 1 to 20, its layer, and its place as a volume sector and a byte.
+// Kept: it is what is told of a cause, and a cause is told by its number; the enums of causes are what code goes by.
 #[derive(Clone, Copy, PartialEq, Eq, Debug)]
 pub struct Refusal {
     pub number: u8,

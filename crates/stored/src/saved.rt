@@ -33,7 +33,7 @@ fn saved_words(bytes: &[u8]) -> [u8; 256]
 {
     let mut saved = [0; 256];
     let (sectors, _) = bytes.as_chunks::<512>();
-    // Kept: the place by its number, as in `with_words`: no clause says what a loop over `as_chunks_mut` leaves in `saved`.
+    // Kept: the place by its number. A loop over `saved.as_chunks_mut` was tried and not proved: no clause says what it leaves.
     for (k, sector) in sectors.iter().take(64).enumerate() {
         put_bytes(&mut saved, 4 * k, &sector[..4]);
     }

@@ -19,6 +19,7 @@ impl From<DeviceFault> for LogFault {
 
 impl LogFault {
     // The number under which it is told.
+    // Kept: a refusal is known by its number in every rule and promise; the enum is what code goes by.
     pub fn number(&self) -> u8
         ensures { result ≡ (meaning self.now).number }
     {
@@ -54,25 +55,13 @@ impl fmt::Display for LogFault {
         let number = self.number();
         let sector = self.sector();
         match self {
-            LogFault::Device(_) => write!(f, "sector {sector} of the device: refused {number}"),
-            LogFault::Label => write!(f, "label: a field breaks its limit, refused {number}"),
-            LogFault::Buffer => write!(f, "buffer: too short for a record, refused {number}"),
-            LogFault::Disorder { .. } => {
-                write!(f, "log at sector {sector}: not in order, refused {number}")
-            }
-            LogFault::Empty => write!(f, "log: no newest record, refused {number}"),
-            LogFault::Unsound { .. } => {
-                write!(f, "header at sector {sector}: not sound, refused {number}")
-            }
-            LogFault::Chain { .. } => {
-                write!(f, "chain at sector {sector}: broken, refused {number}")
-            }
             LogFault::Checksum { .. } => {
                 write!(
                     f,
                     "record at sector {sector}: checksum wrong, refused {number}"
                 )
             }
+            _ => write!(f, "refused {number} at sector {sector}"),
         }
     }
 }

@@ -11,7 +11,7 @@ returns c =
     let s = stored L (position L a.own.0 a.own.1 + 1) (whole_sectors a.bytes) a.bytes in
     let w = saved_words (whole_sectors a.bytes) a.bytes in
     let e = c.sealed.ensures
-        ∙ ap (λ k. sealed k c.pack-saved.result c.pack-saved.new.bytes) c.header_at-header.ensures
-        ∙ ap (λ k. sealed h k c.pack-saved.new.bytes) c.pack-saved.ensures.saved
-        ∙ ap (λ k. sealed h w k) c.pack-saved.ensures.after in
+    ∙ ap (λ k. sealed k c.pack-saved.result c.pack-saved.new.bytes) c.header_at-header.ensures
+    ∙ ap (λ k. sealed h k c.pack-saved.new.bytes) c.pack-saved.ensures.saved
+    ∙ ap (λ k. sealed h w k) c.pack-saved.ensures.after in
     ap (λ (k : List ℕ). k ∷ (c.pack-saved.new.bytes ∷ [])) e ∙ ap (λ (k : List ℕ). sealed h w s ∷ (k ∷ [])) c.pack-saved.ensures.after
