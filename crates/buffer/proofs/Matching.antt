@@ -1,6 +1,6 @@
 -- Bits of a map, its runs, and regions matched to them one after the other. Assumes nothing.
 use Rattle.std.proofs.Common.{◌≡◌, ℕ, zero, suc, ◌+◌, ◌-◌, ◌*◌, ◌<◌, ◌≤◌, Bool, true, false, ◌&&◌, eqb, List, [], ◌∷◌, map, length, get_or, drop, sym, refl, ap, ◌∙◌, inl, inr, arith}
-use Rattle.std.proofs.lemmas.List.{length-map, get_or-map, drop_all, drop_more}
+use Rattle.std.proofs.lemmas.List.{get_or-map, get_or-drop, drop_all, drop_more}
 use Rattle.std.proofs.lemmas.Grind.{common_steps}
 use Rattle.std.proofs.lemmas.Bool.{cases_lt, cases_eq, eq-eqb, ne_eqb, both_ways}
 use Rattle.codec.specs.Fields.{same}
@@ -83,11 +83,17 @@ module _ (h : List ℕ) where
               rw (r, d, m, t, s, e))
         ]
 
+-- how many data regions places have
+pub data_length : (b : List ℕ) (ps : List Place) → length (drop 1 (regions b ps)) ≡ length ps - 1
+data_length b ps = grind (arith, common_steps)
+
 -- a turn of the loop over the places: t says whether region i is of the size of its run
-pub turn : (h : List ℕ) (n : ℕ) (bytes : List ℕ) (ps : List Place) (i b f e : ℕ) (d : Place) (t : Bool) → FirstSet h n b f → f < n → RunTo h n f e → i < length ps
-    → t ≡ eqb (length (region bytes (get_or ps i d))) (128 * (e - f)) → left h n (regions bytes ps) i b ≡ (t && left h n (regions bytes ps) (i + 1) e)
-turn h n bytes ps i b f e d t first l run k q =
-    let a = length-map ps (region bytes) in
-    left_run h n (regions bytes ps) i b f first e l run (omega arith)
-    ∙ ap (λ (r : List ℕ). eqb (length r) (128 * (e - f)) && left h n (regions bytes ps) (i + 1) e) (get_or-map (region bytes) ps i d [] k)
-    ∙ ap (λ (w : Bool). w && left h n (regions bytes ps) (i + 1) e) (sym q)
+pub turn : (h : List ℕ) (n : ℕ) (bytes : List ℕ) (ps : List Place) (i b f e : ℕ) (d : Place) (t : Bool) → FirstSet h n b f → f < n → RunTo h n f e → 0 < i → i < length ps
+    → t ≡ eqb (length (region bytes (get_or ps i d))) (128 * (e - f)) → left h n (drop 1 (regions bytes ps)) (i - 1) b ≡ (t && left h n (drop 1 (regions bytes ps)) i e)
+turn h n bytes ps i b f e d t first l run z k q =
+    let a = data_length bytes ps in
+    let r = left_run h n (drop 1 (regions bytes ps)) (i - 1) b f first e l run (omega arith) in
+    let j : (i - 1) + 1 ≡ i = omega arith in
+    let g = get_or-drop 1 (regions bytes ps) (i - 1) [] in
+    let m = get_or-map (region bytes) ps i d [] k in
+    grind (arith)

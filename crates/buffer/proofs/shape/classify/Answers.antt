@@ -1,4 +1,4 @@
-use Rattle.std.proofs.Common.{◌≡◌, ℕ, ◌≤◌, ◌&&◌, true, List, [], length, get_or, drop, nat_le, arith, rules}
+use Rattle.std.proofs.Common.{◌≡◌, ℕ, ◌≤◌, ◌&&◌, true, List, [], length, get_or, drop, nat_le, refl, arith, rules}
 use Rattle.std.proofs.lemmas.Bool.Decides.{nat_tests}
 use Rattle.codec.specs.Fields.{le16}
 use Rattle.item.specs.Buffer.{buffer_length, flagged, buffer_meaning}
@@ -12,4 +12,4 @@ of_right_length : (rs ds : List (List ℕ)) (h : List ℕ) (a : Class) → h ≡
 of_right_length rs ds h a e d x y f = grind (arith, nat_tests)
 
 pub returns : goal.returns
-returns c = of_right_length (regions_of c.args.item) (regions_of c.rest.result) c.region-head.result.now c.flagged.result c.region-head.ensures c.rest.ensures c.if-head-lt20.false (search rules) c.flagged.ensures
+returns c = of_right_length (regions_of c.args.item) (drop 1 (regions_of c.args.item)) c.region-head.result.now c.flagged.result c.region-head.ensures refl c.if-head-lt20.false (search rules) c.flagged.ensures
