@@ -88,12 +88,9 @@ pub data_length : (b : List ℕ) (ps : List Place) → length (drop 1 (regions b
 data_length b ps = grind (arith, common_steps)
 
 -- a turn of the loop over the places: t says whether region i is of the size of its run
-pub turn : (h : List ℕ) (n : ℕ) (bytes : List ℕ) (ps : List Place) (i b f e : ℕ) (d : Place) (t : Bool) → FirstSet h n b f → f < n → RunTo h n f e → 0 < i → i < length ps
-    → t ≡ eqb (length (region bytes (get_or ps i d))) (128 * (e - f)) → left h n (drop 1 (regions bytes ps)) (i - 1) b ≡ (t && left h n (drop 1 (regions bytes ps)) i e)
-turn h n bytes ps i b f e d t first l run z k q =
-    let a = data_length bytes ps in
-    let r = left_run h n (drop 1 (regions bytes ps)) (i - 1) b f first e l run (omega arith) in
+pub turn : (h : List ℕ) (n : ℕ) (bytes : List ℕ) (ps : List Place) (i b f e : ℕ) (t : Bool) → FirstSet h n b f → f < n → RunTo h n f e → 0 < i → i < length ps
+    → t ≡ eqb (length (region bytes (get_or ps i (record { offset = 0; length = 0 })))) (128 * (e - f)) → left h n (drop 1 (regions bytes ps)) (i - 1) b ≡ (t && left h n (drop 1 (regions bytes ps)) i e)
+turn h n bytes ps i b f e t first l run z k q =
+    let r = left_run h n (drop 1 (regions bytes ps)) (i - 1) b f first e l run (omega (arith, data_length bytes ps)) in
     let j : (i - 1) + 1 ≡ i = omega arith in
-    let g = get_or-drop 1 (regions bytes ps) (i - 1) [] in
-    let m = get_or-map (region bytes) ps i d [] k in
-    grind (arith)
+    grind (arith, get_or-drop 1 (regions bytes ps) (i - 1) [], get_or-map (region bytes) ps i (record { offset = 0; length = 0 }) [] k)

@@ -50,8 +50,8 @@ pub(crate) fn classify(item: Item<'_>) -> Class
     ensures { result ≡ class_of (buffer_meaning (regions_of item.entry)) }
 {
     let head = item.region(0);
-    if head.len() < 20 || !(1..=64).contains(&u16::le_at(head, 6)) {
-        return Class::Malformed;
+    match u16::le_at(head, 6) {
+        1..=64 if head.len() >= 20 => flagged(head, item),
+        _ => Class::Malformed,
     }
-    flagged(head, item)
 }
