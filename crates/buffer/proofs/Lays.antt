@@ -27,13 +27,13 @@ cursor_small h (suc k) =
 
 -- where the walk stands no number is large
 pub small_at : (h : List ℕ) (k : ℕ) (at : Cursor) → at ≡ cursor h k → (at.region ≤ k) × (at.byte ≤ 128 * k)
-small_at h k at e = let s = cursor_small h k in let Small : Cursor → Type 0 = λ c. (c.region ≤ k) × (c.byte ≤ 128 * k) in subst Small (sym e) s
+small_at h k at e = rw e (cursor_small h k)
 
 -- a step of the walk in the code
 pub stepped : (h : List ℕ) (k k' : ℕ) (at next : Cursor) (x : Bool) → k' ≡ k + 1 → at ≡ cursor h k → x ≡ map_bit h k → next ≡ moved x at → next ≡ cursor h k'
 stepped h k k' at next x e a b m =
     let s : suc k ≡ k' = omega arith in
-    m ∙ ap (λ z. moved z at) b ∙ ap (moved (map_bit h k)) a ∙ ap (cursor h) s
+    cc
 
 -- A sector with values laid over it, byte by byte.
 
@@ -82,14 +82,12 @@ module _ (h : List ℕ) (n : ℕ) (ds : List (List ℕ)) (fit : regions_fit (map
 
   -- the region that the walk stands in
   region_is : (d : List ℕ) → d ≡ get_or ds at.region [] → d ≡ get_or ds (cursor h (4 * k + i)).region []
-  region_is d e = e ∙ ap (λ (x : Cursor). get_or ds x.region []) here
+  region_is d e = cc
 
   pub has_room : (d : List ℕ) → map_bit h (4 * k + i) ≡ true → d ≡ get_or ds at.region [] → at.byte + 128 ≤ length d
   has_room d t e =
       let r = chunk_room h n ds fit (4 * k + i) (omega arith) t in
-      let a : at.byte ≡ (cursor h (4 * k + i)).byte = ap (λ (x : Cursor). x.byte) here in
-      let b : length d ≡ length (get_or ds (cursor h (4 * k + i)).region []) = ap length (region_is d e) in
-      omega arith
+      rw (e, here) r
 
   pub turn_set : (xs ys zs d : List ℕ) → map_bit h (4 * k + i) ≡ true → d ≡ get_or ds at.region [] → Laid sector_cover xs ys (128 * i)
       → ((j : ℕ) → j < 128 → get_or zs (128 * i + j) 0 ≡ get_or d (at.byte + j) 0) → ((j : ℕ) → j < 128 * i → get_or zs j 0 ≡ get_or ys j 0) → ((j : ℕ) → 128 * i + 128 ≤ j → get_or zs j 0 ≡ get_or ys j 0)

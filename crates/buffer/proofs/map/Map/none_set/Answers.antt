@@ -2,8 +2,7 @@ use Rattle.std.proofs.Common.{◌-◌, refl, rules, tests}
 use Rattle.std.proofs.lemmas.Iterator.{YieldsList-from_range}
 use Rattle.std.proofs.lemmas.Iterator.Search.{any_from_yields_List}
 use Rattle.item.specs.Buffer.{map_bit}
-use Rattle.buffer.proofs.Bits.{none_any}
-use Rattle.buffer.proofs.Matching.{bits_beyond}
+use Rattle.buffer.proofs.Matching.{bits_beyond, none_any}
 use Rattle.buffer.proofs.map.Map.none_set.Goals as goal
 
 pub returns : goal.returns
