@@ -1,10 +1,9 @@
 -- Chunk after chunk laid over a sector. Assumes nothing.
-use Rattle.std.proofs.Common.{◌≡◌, ℕ, zero, suc, ◌+◌, ◌-◌, ◌*◌, ◌<◌, ◌≤◌, Bool, true, false, cond, ltb, List, [], ◌∷◌, length, get_or, Some, None, Option, sym, refl, ap, ◌∙◌, subst, arith}
+use Rattle.std.proofs.Common.{◌≡◌, ℕ, zero, suc, ◌+◌, ◌-◌, ◌*◌, ◌<◌, ◌≤◌, Bool, true, false, cond, ltb, List, [], ◌∷◌, length, get_or, Some, None, Option, sym, refl, ap, ◌∙◌, arith}
 use Rattle.std.proofs.lemmas.List.{ext_get_or}
 use Rattle.std.proofs.lemmas.Bool.Decides.{nat_tests}
 use Rattle.codec.specs.Fields.{joined}
 use Rattle.keys.specs.declared.patch.PatchKey.{PatchKey}
-use Rattle.item.specs.Meaning.{Meaning}
 use Rattle.item.specs.Buffer.{map_bit, map_bits, regions_fit, cover, buffer_meaning}
 use Rattle.item.specs.Covers.{cover_of, give, overlay, laid}
 use Rattle.item.specs.Whole.{Patched}
@@ -98,8 +97,8 @@ module _ (h : List ℕ) (n : ℕ) (ds : List (List ℕ)) (fit : regions_fit (map
       let b = get_or ds c.region [] in
       let given : (j : ℕ) → j < 128 → get_or sector_cover (128 * i + j) None ≡ Some (get_or b (c.byte + j) 0) = λ j l.
       sector_chunk (cover (map_bits h 0 n) (joined ds)) k i j low l ∙ chunk_set h n ds fit (4 * k + i) (omega arith) t j l in
-      let one : (j : ℕ) → j < 128 → get_or zs (128 * i + j) 0 ≡ get_or b (c.byte + j) 0 = λ j l. inside j l ∙ ap (λ (x : List ℕ). get_or x (at.byte + j) 0) (region_is d e) ∙ ap (λ (x : Cursor). get_or b (x.byte + j) 0) here in
-      subst (λ m. Laid sector_cover xs zs m) q (set_chunk sector_cover xs ys zs (128 * i) (λ j. get_or b (c.byte + j) 0) g given one before behind)
+      let one : (j : ℕ) → j < 128 → get_or zs (128 * i + j) 0 ≡ get_or b (c.byte + j) 0 = λ j l. (let w = inside j l in cc) in
+      rw (← q) (set_chunk sector_cover xs ys zs (128 * i) (λ j. get_or b (c.byte + j) 0) g given one before behind)
 
   pub turn_clear : (xs ys zs : List ℕ) → map_bit h (4 * k + i) ≡ false → zs ≡ ys → Laid sector_cover xs ys (128 * i) → Laid sector_cover xs zs (128 * (i + 1))
   turn_clear xs ys zs t e g =
@@ -107,8 +106,8 @@ module _ (h : List ℕ) (n : ℕ) (ds : List (List ℕ)) (fit : regions_fit (map
       let given : (j : ℕ) → j < 128 → get_or sector_cover (128 * i + j) None ≡ None = λ j l.
       sector_chunk (cover (map_bits h 0 n) (joined ds)) k i j low l ∙ chunk_clear h n ds fit (4 * k + i) (omega arith) t j l in
       let r = skip_chunk sector_cover xs ys (128 * i) g given in
-      subst (λ m. Laid sector_cover xs zs m) q (subst (λ (us : List ℕ). Laid sector_cover xs us (128 * i + 128)) (sym e) r)
+      rw (← q, e) r
 
 -- past the range nothing is laid
 pub laid_past : (rs : List (List ℕ)) (key : PatchKey) (k : ℕ) (xs : List ℕ) → Patched rs key → key.length ≤ k → xs ≡ laid (buffer_meaning rs) k xs
-laid_past rs key k xs w l = sym (ap (λ (m : Meaning). laid m k xs) w.meaning ∙ ap (λ (os : List (Option ℕ)). overlay os xs) (past rs key w k l) ∙ overlay_none xs)
+laid_past rs key k xs w l = cc (w.meaning, past rs key w k l, overlay_none xs)
