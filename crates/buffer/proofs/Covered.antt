@@ -27,7 +27,7 @@ sector_at c j o l = get_or-take 512 (drop (512 * j) c) o None l ∙ get_or-drop 
 
 -- chunk i of it
 pub sector_chunk : (c : List (Option ℕ)) (k i o : ℕ) → i < 4 → o < 128 → get_or (cover_of c k) (128 * i + o) None ≡ get_or c (128 * (4 * k + i) + o) None
-sector_chunk c k i o l h = let x : 512 * k + (128 * i + o) ≡ 128 * (4 * k + i) + o = omega arith in sector_at c k (128 * i + o) (omega arith) ∙ ap (λ (y : ℕ). get_or c y None) x
+sector_chunk c k i o l h = grind (arith, sector_at c k (128 * i + o))
 
 none_means : (h : List ℕ) (b m : ℕ) → none_set (map_bits h b m) ≡ true → (k : ℕ) → b ≤ k → k < b + m → map_bit h k ≡ false
 none_means h b zero e k x y = absurd (omega arith)
