@@ -27,17 +27,13 @@ first_ends bs m [] e = cc
 first_ends bs m (d ∷ es) e = grind (arith, nat_tests)
 
 joined_past : (es : List (List ℕ)) (y : ℕ) → length (get_or es 0 []) ≡ y → drop y (joined es) ≡ joined (drop 1 es)
-joined_past [] zero e = refl
-joined_past [] (suc y) e = refl
-joined_past (d ∷ es) y e = drop_at d (joined es) y e
+joined_past es y e = grind (arith, common_steps)
 
 joined_first : (es : List (List ℕ)) (j : ℕ) → j < length (get_or es 0 []) → get_or (joined es) j 0 ≡ get_or (get_or es 0 []) j 0
-joined_first [] j l = absurd (omega arith)
-joined_first (d ∷ es) j l = get_or_append_left d (joined es) 0 j l
+joined_first es j l = grind (arith, common_steps)
 
 joined_long : (es : List (List ℕ)) → length (get_or es 0 []) ≤ length (joined es)
-joined_long [] = omega arith
-joined_long (d ∷ es) = grind (arith, common_steps)
+joined_long es = grind (arith, common_steps)
 
 -- the bytes of one chunk more
 past_set : (bs : List Bool) (b : List ℕ) → 128 ≤ length b → drop 128 (cover (true ∷ bs) b) ≡ cover bs (drop 128 b)
@@ -92,7 +88,7 @@ module _ (h : List ℕ) (n : ℕ) (ds : List (List ℕ)) (fit : regions_fit (map
 
   -- the region that the walk stands in
   front_is : (i : ℕ) → get_or (drop i ds) 0 [] ≡ get_or ds i []
-  front_is i = let z : i + 0 ≡ i = omega arith in get_or-drop i ds 0 [] ∙ ap (λ x. get_or ds x []) z
+  front_is i = grind (arith, common_steps)
 
   room_at : (c i y : ℕ) → c < n → map_bit h c ≡ true → Stands c i y → y + 128 ≤ length (get_or (drop i ds) 0 [])
   room_at c i y l t s =
@@ -100,13 +96,12 @@ module _ (h : List ℕ) (n : ℕ) (ds : List (List ℕ)) (fit : regions_fit (map
       omega (arith, s.size)
 
   data_long : (c i y : ℕ) → c < n → map_bit h c ≡ true → Stands c i y → 128 ≤ length (drop y (joined (drop i ds)))
-  data_long c i y l t s = let r = room_at c i y l t s in let j = joined_long (drop i ds) in let d = length-drop y (joined (drop i ds)) in omega arith
+  data_long c i y l t s = omega (arith, room_at c i y l t s, joined_long (drop i ds), length-drop y (joined (drop i ds)))
 
   -- the rest, one chunk on
   rest_on : (c : ℕ) (os : List (Option ℕ)) → drop (128 * c) given ≡ os → drop (128 * (c + 1)) given ≡ drop 128 os
   rest_on c os e =
-      let q : 128 * (c + 1) ≡ 128 * c + 128 = omega arith in
-      ap (λ x. drop x given) q ∙ sym (drop-drop 128 (128 * c) given) ∙ ap (drop 128) e
+      grind (arith, drop-drop 128 (128 * c) given)
 
   stands_set : (c i y : ℕ) → c < n → map_bit h c ≡ true → Stands c i y → Stands (c + 1) i (y + 128)
   stands_set c i y l t s =

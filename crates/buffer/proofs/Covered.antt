@@ -1,10 +1,9 @@
 -- Which sectors of its range a patch covers. Assumes nothing.
-use Rattle.std.proofs.Common.{◌≡◌, ℕ, zero, suc, ◌+◌, ◌-◌, ◌*◌, ◌/◌, ◌%◌, ◌<◌, ◌≤◌, true, false, not, List, [], ◌∷◌, length, get_or, take, drop, Some, None, Option, sym, refl, ap, ◌∙◌, inl, inr, arith}
+use Rattle.std.proofs.Common.{◌≡◌, ℕ, zero, suc, ◌+◌, ◌-◌, ◌*◌, ◌/◌, ◌%◌, ◌<◌, ◌≤◌, true, false, not, List, [], ◌∷◌, length, get_or, drop, Some, None, Option, sym, refl, ap, ◌∙◌, inl, inr, arith}
 use Rattle.std.proofs.lemmas.List.{get_or-take, get_or-drop, length-take, drop_all}
 use Rattle.std.proofs.lemmas.Bool.{cases_Bool}
 use Rattle.codec.specs.Fields.{joined}
 use Rattle.keys.specs.declared.patch.PatchKey.{PatchKey}
-use Rattle.item.specs.Meaning.{Meaning}
 use Rattle.item.specs.Buffer.{map_bit, map_bits, none_set, buffer_length, chunks, cover, buffer_meaning}
 use Rattle.item.specs.Covers.{cover_of, gives_any, covers_sector}
 use Rattle.item.specs.Whole.{Patched, length_patch}
@@ -20,7 +19,7 @@ gives_some (None ∷ os) (suc o) v e = gives_some os o v e
 gives_none : (os : List (Option ℕ)) → ((o : ℕ) → o < length os → get_or os o None ≡ None) → gives_any os ≡ false
 gives_none [] z = refl
 gives_none (None ∷ os) z = gives_none os (λ o l. z (suc o) (omega arith))
-gives_none (Some w ∷ os) z = let e : Some w ≡ None = z 0 (omega arith) in cc
+gives_none (Some w ∷ os) z = grind (arith, z 0)
 
 -- a sector's part of a cover
 sector_at : (c : List (Option ℕ)) (j o : ℕ) → o < 512 → get_or (cover_of c j) o None ≡ get_or c (512 * j + o) None
@@ -28,7 +27,7 @@ sector_at c j o l = get_or-take 512 (drop (512 * j) c) o None l ∙ get_or-drop 
 
 -- chunk i of it
 pub sector_chunk : (c : List (Option ℕ)) (k i o : ℕ) → i < 4 → o < 128 → get_or (cover_of c k) (128 * i + o) None ≡ get_or c (128 * (4 * k + i) + o) None
-sector_chunk c k i o l h = let x : 512 * k + (128 * i + o) ≡ 128 * (4 * k + i) + o = omega arith in sector_at c k (128 * i + o) (omega arith) ∙ ap (λ (y : ℕ). get_or c y None) x
+sector_chunk c k i o l h = grind (arith, sector_at c k (128 * i + o))
 
 none_means : (h : List ℕ) (b m : ℕ) → none_set (map_bits h b m) ≡ true → (k : ℕ) → b ≤ k → k < b + m → map_bit h k ≡ false
 none_means h b zero e k x y = absurd (omega arith)
@@ -36,11 +35,7 @@ none_means h b (suc m) e k x y = grind (arith, none_means h (b + 1) m)
 
 some_means : (h : List ℕ) (b m : ℕ) → none_set (map_bits h b m) ≡ false → (k : ℕ) × (b ≤ k) × (k < b + m) × (map_bit h k ≡ true)
 some_means h b zero e = cc
-some_means h b (suc m) e =
-    elim (cases_Bool (map_bit h b)) [
-      | inl t ↦ (b, omega arith, omega arith, t)
-      | inr t ↦ (let w = some_means h (b + 1) m (rw t at e) in (w.0, omega (arith, w.1), omega (arith, w.2), w.3))
-    ]
+some_means h b (suc m) e = grind (arith, some_means h (b + 1) m)
 
 module _ (rs : List (List ℕ)) (key : PatchKey) (w : Patched rs key) (j : ℕ) where
   abbrev whole : List (Option ℕ)
@@ -74,11 +69,11 @@ module _ (rs : List (List ℕ)) (key : PatchKey) (w : Patched rs key) (j : ℕ) 
       ]
 
   pub covered_in : j < key.length → not (none_set (map_bits (get_or rs 0 []) (4 * j) 4)) ≡ covers_sector (buffer_meaning rs) j
-  covered_in l = sym (ap (λ (m : Meaning). covers_sector m j) w.meaning ∙ sector_any l)
+  covered_in l = rw w.meaning (sym (sector_any l))
 
   -- past the range nothing is given
   pub past : key.length ≤ j → cover_of whole j ≡ []
-  past l = let e = length_patch rs key w in ap (take 512) (drop_all (512 * j) whole (omega arith))
+  past l = grind (arith, drop_all (512 * j) whole, length_patch rs key w)
 
   pub covered_past : key.length ≤ j → false ≡ covers_sector (buffer_meaning rs) j
-  covered_past l = sym (ap (λ (m : Meaning). covers_sector m j) w.meaning ∙ ap gives_any (past l))
+  covered_past l = rw (w.meaning, past l)

@@ -1,10 +1,9 @@
 -- Chunk after chunk laid over a sector. Assumes nothing.
-use Rattle.std.proofs.Common.{◌≡◌, ℕ, zero, suc, ◌+◌, ◌-◌, ◌*◌, ◌<◌, ◌≤◌, Bool, true, false, cond, ltb, List, [], ◌∷◌, length, get_or, Some, None, Option, sym, refl, ap, ◌∙◌, subst, arith}
+use Rattle.std.proofs.Common.{◌≡◌, ℕ, zero, suc, ◌+◌, ◌-◌, ◌*◌, ◌<◌, ◌≤◌, Bool, true, false, cond, ltb, List, [], ◌∷◌, length, get_or, Some, None, Option, sym, refl, ap, ◌∙◌, arith}
 use Rattle.std.proofs.lemmas.List.{ext_get_or}
 use Rattle.std.proofs.lemmas.Bool.Decides.{nat_tests}
 use Rattle.codec.specs.Fields.{joined}
 use Rattle.keys.specs.declared.patch.PatchKey.{PatchKey}
-use Rattle.item.specs.Meaning.{Meaning}
 use Rattle.item.specs.Buffer.{map_bit, map_bits, regions_fit, cover, buffer_meaning}
 use Rattle.item.specs.Covers.{cover_of, give, overlay, laid}
 use Rattle.item.specs.Whole.{Patched}
@@ -27,13 +26,13 @@ cursor_small h (suc k) =
 
 -- where the walk stands no number is large
 pub small_at : (h : List ℕ) (k : ℕ) (at : Cursor) → at ≡ cursor h k → (at.region ≤ k) × (at.byte ≤ 128 * k)
-small_at h k at e = let s = cursor_small h k in let Small : Cursor → Type 0 = λ c. (c.region ≤ k) × (c.byte ≤ 128 * k) in subst Small (sym e) s
+small_at h k at e = rw e (cursor_small h k)
 
 -- a step of the walk in the code
 pub stepped : (h : List ℕ) (k k' : ℕ) (at next : Cursor) (x : Bool) → k' ≡ k + 1 → at ≡ cursor h k → x ≡ map_bit h k → next ≡ moved x at → next ≡ cursor h k'
 stepped h k k' at next x e a b m =
     let s : suc k ≡ k' = omega arith in
-    m ∙ ap (λ z. moved z at) b ∙ ap (moved (map_bit h k)) a ∙ ap (cursor h) s
+    cc
 
 -- A sector with values laid over it, byte by byte.
 
@@ -82,14 +81,12 @@ module _ (h : List ℕ) (n : ℕ) (ds : List (List ℕ)) (fit : regions_fit (map
 
   -- the region that the walk stands in
   region_is : (d : List ℕ) → d ≡ get_or ds at.region [] → d ≡ get_or ds (cursor h (4 * k + i)).region []
-  region_is d e = e ∙ ap (λ (x : Cursor). get_or ds x.region []) here
+  region_is d e = cc
 
   pub has_room : (d : List ℕ) → map_bit h (4 * k + i) ≡ true → d ≡ get_or ds at.region [] → at.byte + 128 ≤ length d
   has_room d t e =
       let r = chunk_room h n ds fit (4 * k + i) (omega arith) t in
-      let a : at.byte ≡ (cursor h (4 * k + i)).byte = ap (λ (x : Cursor). x.byte) here in
-      let b : length d ≡ length (get_or ds (cursor h (4 * k + i)).region []) = ap length (region_is d e) in
-      omega arith
+      rw (e, here) r
 
   pub turn_set : (xs ys zs d : List ℕ) → map_bit h (4 * k + i) ≡ true → d ≡ get_or ds at.region [] → Laid sector_cover xs ys (128 * i)
       → ((j : ℕ) → j < 128 → get_or zs (128 * i + j) 0 ≡ get_or d (at.byte + j) 0) → ((j : ℕ) → j < 128 * i → get_or zs j 0 ≡ get_or ys j 0) → ((j : ℕ) → 128 * i + 128 ≤ j → get_or zs j 0 ≡ get_or ys j 0)
@@ -100,8 +97,8 @@ module _ (h : List ℕ) (n : ℕ) (ds : List (List ℕ)) (fit : regions_fit (map
       let b = get_or ds c.region [] in
       let given : (j : ℕ) → j < 128 → get_or sector_cover (128 * i + j) None ≡ Some (get_or b (c.byte + j) 0) = λ j l.
       sector_chunk (cover (map_bits h 0 n) (joined ds)) k i j low l ∙ chunk_set h n ds fit (4 * k + i) (omega arith) t j l in
-      let one : (j : ℕ) → j < 128 → get_or zs (128 * i + j) 0 ≡ get_or b (c.byte + j) 0 = λ j l. inside j l ∙ ap (λ (x : List ℕ). get_or x (at.byte + j) 0) (region_is d e) ∙ ap (λ (x : Cursor). get_or b (x.byte + j) 0) here in
-      subst (λ m. Laid sector_cover xs zs m) q (set_chunk sector_cover xs ys zs (128 * i) (λ j. get_or b (c.byte + j) 0) g given one before behind)
+      let one : (j : ℕ) → j < 128 → get_or zs (128 * i + j) 0 ≡ get_or b (c.byte + j) 0 = λ j l. (let w = inside j l in cc) in
+      rw (← q) (set_chunk sector_cover xs ys zs (128 * i) (λ j. get_or b (c.byte + j) 0) g given one before behind)
 
   pub turn_clear : (xs ys zs : List ℕ) → map_bit h (4 * k + i) ≡ false → zs ≡ ys → Laid sector_cover xs ys (128 * i) → Laid sector_cover xs zs (128 * (i + 1))
   turn_clear xs ys zs t e g =
@@ -109,8 +106,8 @@ module _ (h : List ℕ) (n : ℕ) (ds : List (List ℕ)) (fit : regions_fit (map
       let given : (j : ℕ) → j < 128 → get_or sector_cover (128 * i + j) None ≡ None = λ j l.
       sector_chunk (cover (map_bits h 0 n) (joined ds)) k i j low l ∙ chunk_clear h n ds fit (4 * k + i) (omega arith) t j l in
       let r = skip_chunk sector_cover xs ys (128 * i) g given in
-      subst (λ m. Laid sector_cover xs zs m) q (subst (λ (us : List ℕ). Laid sector_cover xs us (128 * i + 128)) (sym e) r)
+      rw (← q, e) r
 
 -- past the range nothing is laid
 pub laid_past : (rs : List (List ℕ)) (key : PatchKey) (k : ℕ) (xs : List ℕ) → Patched rs key → key.length ≤ k → xs ≡ laid (buffer_meaning rs) k xs
-laid_past rs key k xs w l = sym (ap (λ (m : Meaning). laid m k xs) w.meaning ∙ ap (λ (os : List (Option ℕ)). overlay os xs) (past rs key w k l) ∙ overlay_none xs)
+laid_past rs key k xs w l = cc (w.meaning, past rs key w k l, overlay_none xs)

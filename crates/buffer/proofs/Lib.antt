@@ -1,4 +1,3 @@
-pub mod Bits
 pub mod Matching
 pub mod Chunks
 pub mod Covered

@@ -1,10 +1,11 @@
 -- Bits of a map, its runs, and regions matched to them one after the other. Assumes nothing.
-use Rattle.std.proofs.Common.{◌≡◌, ℕ, zero, suc, ◌+◌, ◌-◌, ◌*◌, ◌<◌, ◌≤◌, Bool, true, false, ◌&&◌, eqb, List, [], ◌∷◌, map, length, get_or, drop, sym, refl, ap, ◌∙◌, inl, inr, arith}
-use Rattle.std.proofs.lemmas.List.{length-map, get_or-map, drop_all, drop_more}
+use Rattle.std.proofs.Common.{◌≡◌, ℕ, zero, suc, ◌+◌, ◌-◌, ◌*◌, ◌<◌, ◌≤◌, Bool, true, false, not, ◌&&◌, eqb, List, [], ◌∷◌, map, length, get_or, drop, refl, inl, inr, arith}
+use Rattle.std.proofs.lemmas.List.{get_or-map, get_or-drop, drop_all, drop_more}
 use Rattle.std.proofs.lemmas.Grind.{common_steps}
-use Rattle.std.proofs.lemmas.Bool.{cases_lt, cases_eq, eq-eqb, ne_eqb, both_ways}
+use Rattle.std.proofs.lemmas.Bool.{cases_eq}
+use Rattle.std.specs.List.{list_any, range_with_len}
 use Rattle.codec.specs.Fields.{same}
-use Rattle.item.specs.Buffer.{map_bit, map_bits, runs}
+use Rattle.item.specs.Buffer.{map_bit, map_bits, none_set, runs}
 use Rattle.item.specs.Whole.{length_bits}
 use Rattle.item.specs.Regions.{region, regions}
 use Rattle.item.specs.declared.place.Place.{Place}
@@ -25,25 +26,27 @@ module _ (h : List ℕ) where
   pub bits_beyond : (n m : ℕ) → map_bits h n (m - n) ≡ drop n (map_bits h 0 m)
   bits_beyond n m = grind (arith, common_steps, drop_bits n 0 (m - n), length_bits)
 
+  -- no bit of some is set where not any is
+  pub none_any : (b m : ℕ) → not (list_any (map_bit h) (range_with_len b m)) ≡ none_set (map_bits h b m)
+  none_any b zero = refl
+  none_any b (suc m) = grind (arith, none_any (b + 1) m)
+
   -- bits that are not set are before the runs; bits that are set lengthen the first one
   clear_by : (j b m : ℕ) → ((k : ℕ) → b ≤ k → k < b + j → map_bit h k ≡ false) → runs 0 (map_bits h b (j + m)) ≡ runs 0 (map_bits h (b + j) m)
   clear_by zero b m z = grind arith
   clear_by (suc j) b m z =
       let e : suc j + m ≡ suc (j + m) = omega arith in
-      let t = z b (omega arith) (omega arith) in
-      grind (arith, clear_by j (b + 1) m (λ k x y. z k (omega arith) (omega arith)))
+      grind (arith, z b, clear_by j (b + 1) m (λ k x y. z k (omega arith) (omega arith)))
 
   set_by : (j b m t : ℕ) → ((k : ℕ) → b ≤ k → k < b + j → map_bit h k ≡ true) → runs t (map_bits h b (j + m)) ≡ runs (t + j) (map_bits h (b + j) m)
   set_by zero b m t z = grind arith
   set_by (suc j) b m t z =
       let e : suc j + m ≡ suc (j + m) = omega arith in
-      let s = z b (omega arith) (omega arith) in
-      grind (arith, set_by j (b + 1) m (suc t) (λ k x y. z k (omega arith) (omega arith)))
+      grind (arith, z b, set_by j (b + 1) m (suc t) (λ k x y. z k (omega arith) (omega arith)))
 
   -- a run ends where a bit is not set, or no more bits are
   run_ends : (t e m : ℕ) → (0 < m → map_bit h e ≡ false) → runs (suc t) (map_bits h e m) ≡ suc t ∷ runs 0 (map_bits h e m)
-  run_ends t e zero z = refl
-  run_ends t e (suc m) z = grind (arith, z)
+  run_ends t e m z = grind (arith, z)
 
   -- the runs from the next set bit on
   runs_clear : (n b f : ℕ) → FirstSet h n b f → runs 0 (map_bits h b (n - b)) ≡ runs 0 (map_bits h f (n - f))
@@ -51,7 +54,6 @@ module _ (h : List ℕ) where
 
   runs_set : (n f e : ℕ) → f < n → map_bit h f ≡ true → RunTo h n f e → runs 0 (map_bits h f (n - f)) ≡ (e - f) ∷ runs 0 (map_bits h e (n - e))
   runs_set n f e l t run =
-      let long : f < e = elim (cases_lt f e) [ inl q ↦ q | inr q ↦ (let z : e ≡ f = omega (arith, run.0) in absurd (both_ways (map_bit h f) (ap (map_bit h) (sym z) ∙ run.3 (omega arith)) t)) ] in
       let s = set_by (e - f) f (n - e) 0 (λ k p q. run.2 k p (omega (arith, run.0))) in
       let r = run_ends (e - f - 1) e (n - e) (λ p. run.3 (omega arith)) in
       grind (arith, s, r, run.0, run.1)
@@ -75,19 +77,20 @@ module _ (h : List ℕ) where
         let r = runs_clear n b f first in
         let d = drop_all i ds l in
         elim (cases_eq f n) [
-          | inl q ↦ (let z : n - f ≡ 0 = omega arith in let e = eq-eqb f n q in rw (r, d, z, e))
+          | inl q ↦ grind arith
           | inr q ↦ (let m : n - f ≡ suc (n - f - 1) = omega (arith, first.1) in
-              let t = first.3 (omega (arith, first.1)) in
               let s = some_run 0 (map_bits h (f + 1) (n - f - 1)) in
-              let e = ne_eqb f n q in
-              rw (r, d, m, t, s, e))
+              grind (arith, first.3, first.1))
         ]
 
+-- how many data regions places have
+pub data_length : (b : List ℕ) (ps : List Place) → length (drop 1 (regions b ps)) ≡ length ps - 1
+data_length b ps = grind (arith, common_steps)
+
 -- a turn of the loop over the places: t says whether region i is of the size of its run
-pub turn : (h : List ℕ) (n : ℕ) (bytes : List ℕ) (ps : List Place) (i b f e : ℕ) (d : Place) (t : Bool) → FirstSet h n b f → f < n → RunTo h n f e → i < length ps
-    → t ≡ eqb (length (region bytes (get_or ps i d))) (128 * (e - f)) → left h n (regions bytes ps) i b ≡ (t && left h n (regions bytes ps) (i + 1) e)
-turn h n bytes ps i b f e d t first l run k q =
-    let a = length-map ps (region bytes) in
-    left_run h n (regions bytes ps) i b f first e l run (omega arith)
-    ∙ ap (λ (r : List ℕ). eqb (length r) (128 * (e - f)) && left h n (regions bytes ps) (i + 1) e) (get_or-map (region bytes) ps i d [] k)
-    ∙ ap (λ (w : Bool). w && left h n (regions bytes ps) (i + 1) e) (sym q)
+pub turn : (h : List ℕ) (n : ℕ) (bytes : List ℕ) (ps : List Place) (i b f e : ℕ) (t : Bool) → FirstSet h n b f → f < n → RunTo h n f e → 0 < i → i < length ps
+    → t ≡ eqb (length (region bytes (get_or ps i (record { offset = 0; length = 0 })))) (128 * (e - f)) → left h n (drop 1 (regions bytes ps)) (i - 1) b ≡ (t && left h n (drop 1 (regions bytes ps)) i e)
+turn h n bytes ps i b f e t first l run z k q =
+    let r = left_run h n (drop 1 (regions bytes ps)) (i - 1) b f first e l run (omega (arith, data_length bytes ps)) in
+    let j : (i - 1) + 1 ≡ i = omega arith in
+    grind (arith, get_or-drop 1 (regions bytes ps) (i - 1) [], get_or-map (region bytes) ps i (record { offset = 0; length = 0 }) [] k)

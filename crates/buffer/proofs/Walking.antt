@@ -16,8 +16,8 @@ use Rattle.buffer.proofs.Lays.{moved_small}
 
 -- a range that gave some numbers stands that much further
 further : (xs : List ℕ) (s t : Range ℕ) → Yields nat_range_steps s xs t → (t.end ≡ s.end) × (t.start ≡ s.start + length xs)
-further [] s t y = (sym (ap (λ k. k.end) y), omega (arith, ap (λ (k : Range ℕ). k.start) y))
-further (x ∷ xs) s t y = let h = further xs y.0 t y.2 in (h.0 ∙ y.1.0, omega (arith, h.1, y.1.1.2))
+further [] s t y = grind (arith, y)
+further (x ∷ xs) s t y = grind (arith, y, further xs y.0 t y.2)
 
 module _ {F : Type 0} (g : Mut F (Cursor × (ℕ × Unit {0})) Cursor) (h : List ℕ) (f : F) (steps_on : (at : Cursor) (k : ℕ) (r : Cursor) (e : F) → Called g f (at, (k, tt)) r e → (r ≡ moved (map_bit h k) at) × (e ≡ f)) where
   -- after some turns no number is large
@@ -28,10 +28,8 @@ module _ {F : Type 0} (g : Mut F (Cursor × (ℕ × Unit {0})) Cursor) (h : List
   small_on xs q x v z call =
       let s = steps_on q.1 x v.1 v.0 (subst (λ k. Called g k (q.1, (x, tt)) v.1 v.0) z.0 call) in
       let m = moved_small (map_bit h x) q.1 in
-      let a : v.1.region ≡ (moved (map_bit h x) q.1).region = ap (λ (k : Cursor). k.region) s.0 in
-      let b : v.1.byte ≡ (moved (map_bit h x) q.1).byte = ap (λ (k : Cursor). k.byte) s.0 in
       let l = length_push xs x in
-      (s.1, omega (arith, m.0, z.1), omega (arith, m.1, z.2))
+      grind (arith, s, m, z)
 
   pub walk_callable : (c : Cursor) (b : ℕ) (s : Range ℕ) → s ≡ record { start = 0; end = b } → b ≤ 256 → (c.region ≡ 0) × (c.byte ≡ 0)
       → ((at : Cursor) (k : ℕ) → at.region < 1000 → at.byte < 100000 → Takes g f (at, (k, tt))) → CallableAtEachTurn nat_range_steps (FoldTurn g) (λ p x. Takes g p.0 (p.1, (x, tt))) s (f, c)
@@ -53,10 +51,10 @@ module _ {F : Type 0} (g : Mut F (Cursor × (ℕ × Unit {0})) Cursor) (h : List
       let s = steps_on at k r e call in
       let l = length_push xs k in (
         λ counts.
-            let here : at ≡ cursor h (length xs) = w (λ j d. sym (get_or_append_left xs (k ∷ []) 0 j d) ∙ counts j (omega arith)) in
+            let here = w (λ j d. sym (get_or_append_left xs (k ∷ []) 0 j d) ∙ counts j (omega arith)) in
             let n : k ≡ length xs = sym (get_or_push xs k 0 (length xs) refl) ∙ counts (length xs) (omega arith) in
-            let o : suc (length xs) ≡ length (xs ++ (k ∷ [])) = omega arith in
-            s.0 ∙ ap (λ a. moved (map_bit h k) a) here ∙ ap (λ j. moved (map_bit h j) (cursor h (length xs))) n ∙ ap (cursor h) o,
+            let o : length (xs ++ (k ∷ [])) ≡ suc (length xs) = omega arith in
+            cc,
         s.1,
       )
 
@@ -70,5 +68,5 @@ module _ {F : Type 0} (g : Mut F (Cursor × (ℕ × Unit {0})) Cursor) (h : List
       let l = length-range_with_len s.start (s.end - s.start) in
       let n : length all ≡ b = omega arith in
       fold_over nat_range_steps (λ x. x) g Walked f walked_on s all c r (Range-gives s) (λ _. begin) runs
-      (λ k d. let t = get_or-range_with_len s.start (s.end - s.start) k 0 (omega arith) in t ∙ omega arith)
+      (λ k d. omega (arith, get_or-range_with_len s.start (s.end - s.start) k 0))
       ∙ ap (cursor h) n

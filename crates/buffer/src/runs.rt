@@ -1,5 +1,5 @@
 // The runs of a map, and the regions that they take.
-ghost use Rattle.std.specs.Prelude.{◌≡◌, ◌*◌, ◌≤◌, length, ◌==◌};
+ghost use Rattle.std.specs.Prelude.{◌≡◌, ◌*◌, ◌≤◌, length, drop, ◌==◌};
 ghost use Rattle.item.specs.Buffer.{regions_fit};
 ghost use Rattle.item.specs.Items.{regions_of};
 ghost use Rattle.item.specs.Regions.{region};
@@ -17,16 +17,20 @@ fn is_run(bytes: &[u8], place: Place, chunks: usize) -> bool
     place.region(bytes).len() == 128 * chunks
 }
 
-// Whether each run of the map has one region of just its size, in order.
-pub(crate) fn runs_match(map: Map<'_>, rest: Item<'_>) -> bool
+// Whether each run of the map has one region of just its size, in order, after the first region.
+pub(crate) fn runs_match(map: Map<'_>, item: Item<'_>) -> bool
     requires { map.bits ≤ 65536 }
-    ensures { result ≡ regions_fit (bits_of map.entry) (regions_of rest.entry) }
+    ensures { result ≡ regions_fit (bits_of map.entry) (drop 1 (regions_of item.entry)) }
 {
     let mut b = 0;
-    for place in rest.places {
+    // Kept: with the index, which tells the first region, that has no run, from those that have one.
+    for (i, place) in item.places.iter().enumerate() {
+        if i == 0 {
+            continue;
+        }
         let first = map.next_set(b);
         let end = map.run_end(first);
-        if first == map.bits || !is_run(rest.bytes, *place, end - first) {
+        if first == map.bits || !is_run(item.bytes, *place, end - first) {
             return false;
         }
         b = end;

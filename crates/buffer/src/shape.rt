@@ -30,17 +30,17 @@ fn has_sound_map(head: &[u8]) -> bool
 }
 
 // What a buffer of a right length asks, by its flags.
-fn flagged(head: &[u8], rest: Item<'_>) -> Class
+fn flagged(head: &[u8], item: Item<'_>) -> Class
     requires { buffer_length head.now ≤ 64 }
-    ensures { result ≡ class_of (flagged (le16 head.now 4) head.now (regions_of rest.entry)) }
+    ensures { result ≡ class_of (flagged (le16 head.now 4) head.now (drop 1 (regions_of item.entry))) }
 {
     let key = PatchKey {
         sector: i64::le_at(head, 8),
         length: u32::from(u16::le_at(head, 6)),
     };
     match u16::le_at(head, 4) {
-        CANCEL if rest.count() == 0 => Class::Cancel(key),
-        PATCH if has_sound_map(head) && runs_match(Map::of(head), rest) => Class::Patch(key),
+        CANCEL if item.count() <= 1 => Class::Cancel(key),
+        PATCH if has_sound_map(head) && runs_match(Map::of(head), item) => Class::Patch(key),
         _ => Class::Malformed,
     }
 }
@@ -50,8 +50,8 @@ pub(crate) fn classify(item: Item<'_>) -> Class
     ensures { result ≡ class_of (buffer_meaning (regions_of item.entry)) }
 {
     let head = item.region(0);
-    if head.len() < 20 || !(1..=64).contains(&u16::le_at(head, 6)) {
-        return Class::Malformed;
+    match u16::le_at(head, 6) {
+        1..=64 if head.len() >= 20 => flagged(head, item),
+        _ => Class::Malformed,
     }
-    flagged(head, item.rest())
 }

@@ -1,9 +1,8 @@
-use Rattle.std.proofs.Common.{◌≡◌, ◌-◌, not, refl, ap, ◌∙◌, rules, tests}
+use Rattle.std.proofs.Common.{◌-◌, refl, rules, tests}
 use Rattle.std.proofs.lemmas.Iterator.{YieldsList-from_range}
 use Rattle.std.proofs.lemmas.Iterator.Search.{any_from_yields_List}
-use Rattle.item.specs.Buffer.{map_bit, map_bits, none_set}
-use Rattle.buffer.proofs.Bits.{none_any}
-use Rattle.buffer.proofs.Matching.{bits_beyond}
+use Rattle.item.specs.Buffer.{map_bit}
+use Rattle.buffer.proofs.Matching.{bits_beyond, none_any}
 use Rattle.buffer.proofs.map.Map.none_set.Goals as goal
 
 pub returns : goal.returns
@@ -12,5 +11,6 @@ returns c =
     let n = c.args.n in
     let m = c.args.m in
     let any = any_from_yields_List (map_bit h) _ _ _ c.any.ensures.ran (YieldsList-from_range n m (m - n) refl refl) (λ x b q k. search (rules, tests)) in
-    let none : not c.any.result ≡ none_set (map_bits h n (m - n)) = ap not any ∙ none_any h n (m - n) in
-    record { between = none; beyond = none ∙ ap none_set (bits_beyond h n m) }
+    let none = none_any h n (m - n) in
+    let beyond = bits_beyond h n m in
+    record { between = cc; beyond = cc }
