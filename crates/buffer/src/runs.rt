@@ -23,7 +23,7 @@ pub(crate) fn runs_match(map: Map<'_>, item: Item<'_>) -> bool
     ensures { result ≡ regions_fit (bits_of map.entry) (drop 1 (regions_of item.entry)) }
 {
     let mut b = 0;
-    // Kept: with the index, which tells the first region, that has no run, from those that have one.
+    // Kept: a rule of the project asks for the places with their index; it tells the first region, which has no run, from the others.
     for (i, place) in item.places.iter().enumerate() {
         if i == 0 {
             continue;
