@@ -1,5 +1,5 @@
 -- What a chunk of a patch's range is given: the bytes that a walk over the map stands at. Assumes nothing.
-use Rattle.std.proofs.Common.{◌≡◌, ℕ, zero, suc, ◌+◌, ◌-◌, ◌*◌, ◌<◌, ◌≤◌, Bool, true, false, eqb, List, [], ◌∷◌, map, length, get_or, take, drop, replicate, Some, None, Option, sym, refl, ap, ◌∙◌, subst, inl, inr, arith}
+use Rattle.std.proofs.Common.{◌≡◌, ℕ, zero, suc, ◌+◌, ◌-◌, ◌*◌, ◌<◌, ◌≤◌, Bool, true, false, eqb, List, [], ◌∷◌, map, length, get_or, take, drop, replicate, Some, None, Option, sym, refl, ap, ◌∙◌, inl, inr, arith}
 use Rattle.std.proofs.lemmas.List.{length-map, length-take, length-drop, drop-drop, drop_at, get_or-drop, get_or-take, get_or-map, get_or_append_left, get_or-replicate}
 use Rattle.std.proofs.lemmas.Grind.{common_steps}
 use Rattle.std.proofs.lemmas.Bool.Decides.{nat_tests}
@@ -84,7 +84,7 @@ module _ (h : List ℕ) (n : ℕ) (ds : List (List ℕ)) (fit : regions_fit (map
   fits_at c i y x l t s = rw (bits_at c l, t) at s.fits
 
   gives_at : (c i y : ℕ) (x : Bool) → c < n → map_bit h c ≡ x → Stands c i y → drop (128 * c) given ≡ cover (x ∷ map_bits h (c + 1) (n - (c + 1))) (drop y (joined (drop i ds)))
-  gives_at c i y x l t s = s.gives ∙ ap (λ (bs : List Bool). cover bs (drop y (joined (drop i ds)))) (bits_at c l ∙ ap (λ (b : Bool). b ∷ map_bits h (c + 1) (n - (c + 1))) t)
+  gives_at c i y x l t s = rw (bits_at c l, t) at s.gives
 
   -- the region that the walk stands in
   front_is : (i : ℕ) → get_or (drop i ds) 0 [] ≡ get_or ds i []
@@ -111,7 +111,7 @@ module _ (h : List ℕ) (n : ℕ) (ds : List (List ℕ)) (fit : regions_fit (map
         before = suc s.before;
         size = omega (arith, s.size);
         fits = fits_at c i y true l t s;
-        gives = rest_on c (cover (true ∷ bs) d) (gives_at c i y true l t s) ∙ past_set bs d (data_long c i y l t s) ∙ ap (cover bs) (drop-drop 128 y (joined (drop i ds)));
+        gives = cc (rest_on c (cover (true ∷ bs) d) (gives_at c i y true l t s), past_set bs d (data_long c i y l t s), drop-drop 128 y (joined (drop i ds)));
       }
 
   abbrev StandsAt : ℕ → Cursor → Type 0
@@ -136,7 +136,7 @@ module _ (h : List ℕ) (n : ℕ) (ds : List (List ℕ)) (fit : regions_fit (map
       let s : Stands (c + 1) (at.region + 1) 0 = record {
         before = 0;
         size = refl;
-        fits = subst (λ (x : List (List ℕ)). Fit x 0 bs) r w.1;
+        fits = rw r at w.1;
         gives = rest_on c (cover (false ∷ bs) d) g ∙ past_clear bs d ∙ ap (cover bs) p;
       } in
       rw z s
@@ -152,15 +152,14 @@ module _ (h : List ℕ) (n : ℕ) (ds : List (List ℕ)) (fit : regions_fit (map
         | inl t ↦ rw t (stands_set c at.region at.byte k t s)
         | inr t ↦ rw t (stands_clear c at s.before k s.size (fits_at c at.region at.byte false k t s) (gives_at c at.region at.byte false k t s))
       ] in
-      subst (λ x. StandsAt x (moved (map_bit h c) at)) e next
+      rw e at next
 
   -- a set chunk has its bytes where the walk stands
   pub chunk_room : (c : ℕ) → c < n → map_bit h c ≡ true → (cursor h c).byte + 128 ≤ length (get_or ds (cursor h c).region [])
   chunk_room c l t =
       let i = (cursor h c).region in
       let r = room_at c i (cursor h c).byte l t (stands c (omega arith)) in
-      let q = ap length (front_is i) in
-      omega (arith, q)
+      rw (front_is i) at r
 
   pub chunk_set : (c : ℕ) → c < n → map_bit h c ≡ true → (o : ℕ) → o < 128 → get_or given (128 * c + o) None ≡ Some (get_or (get_or ds (cursor h c).region []) ((cursor h c).byte + o) 0)
   chunk_set c l t o k =
@@ -169,11 +168,9 @@ module _ (h : List ℕ) (n : ℕ) (ds : List (List ℕ)) (fit : regions_fit (map
       let s = stands c (omega arith) in
       let d = drop y (joined (drop i ds)) in
       let r = room_at c i y l t s in
-      sym (get_or-drop (128 * c) given o None) ∙ ap (λ (x : List (Option ℕ)). get_or x o None) (gives_at c i y true l t s) ∙ at_set (map_bits h (c + 1) (n - (c + 1))) d o k (data_long c i y l t s)
-      ∙ ap (λ (x : ℕ). Some x) (get_or-drop y (joined (drop i ds)) o 0 ∙ joined_first (drop i ds) (y + o) (omega arith) ∙ ap (λ (x : List ℕ). get_or x (y + o) 0) (front_is i))
+      cc (get_or-drop (128 * c) given o None, gives_at c i y true l t s, at_set (map_bits h (c + 1) (n - (c + 1))) d o k (data_long c i y l t s), get_or-drop y (joined (drop i ds)) o 0, joined_first (drop i ds) (y + o) (omega arith), front_is i)
 
   pub chunk_clear : (c : ℕ) → c < n → map_bit h c ≡ false → (o : ℕ) → o < 128 → get_or given (128 * c + o) None ≡ None
   chunk_clear c l t o k =
       let at = cursor h c in
-      sym (get_or-drop (128 * c) given o None) ∙ ap (λ (x : List (Option ℕ)). get_or x o None) (gives_at c at.region at.byte false l t (stands c (omega arith)))
-      ∙ at_clear (map_bits h (c + 1) (n - (c + 1))) (drop at.byte (joined (drop at.region ds))) o k
+      cc (get_or-drop (128 * c) given o None, gives_at c at.region at.byte false l t (stands c (omega arith)), at_clear (map_bits h (c + 1) (n - (c + 1))) (drop at.byte (joined (drop at.region ds))) o k)

@@ -59,8 +59,6 @@ module _ (rs : List (List ℕ)) (key : PatchKey) (w : Patched rs key) (j : ℕ) 
             rw e z)
         | inr e ↦ (let u = some_means h (4 * j) 4 e in
             let c = u.0 in
-            let x : 4 * j ≤ c = u.1 in
-            let y : c < 4 * j + 4 = u.2 in
             let o = 128 * (c - 4 * j) in
             let p : 512 * j + o ≡ 128 * c + 0 = omega arith in
             let z : gives_any (cover_of whole j) ≡ true = gives_some (cover_of whole j) o (get_or (get_or (drop 1 rs) (cursor h c).region []) ((cursor h c).byte + 0) 0)

@@ -1,5 +1,5 @@
 -- A walk over a map as a fold over the numbers of its bits. Assumes nothing.
-use Rattle.std.proofs.Common.{◌≡◌, ℕ, suc, ◌+◌, ◌-◌, ◌*◌, ◌<◌, ◌≤◌, List, [], ◌∷◌, ◌++◌, length, get_or, refl, sym, ap, ◌∙◌, subst, arith}
+use Rattle.std.proofs.Common.{◌≡◌, ℕ, suc, ◌+◌, ◌-◌, ◌*◌, ◌<◌, ◌≤◌, List, [], ◌∷◌, ◌++◌, length, get_or, refl, sym, ap, ◌∙◌, arith}
 use Rattle.std.proofs.iter.Yields.{nat_range_steps, Range-gives}
 use Rattle.std.proofs.lemmas.Fn.{chained_keeps, fold_over}
 use Rattle.std.proofs.lemmas.List.{length_push, get_or_push, get_or_append_left}
@@ -26,7 +26,7 @@ module _ {F : Type 0} (g : Mut F (Cursor × (ℕ × Unit {0})) Cursor) (h : List
 
   small_on : (xs : List ℕ) (q : F × Cursor) (x : ℕ) (v : F × Cursor) → Small xs q → FoldTurn g q x v → Small (xs ++ (x ∷ [])) v
   small_on xs q x v z call =
-      let s = steps_on q.1 x v.1 v.0 (subst (λ k. Called g k (q.1, (x, tt)) v.1 v.0) z.0 call) in
+      let s = steps_on q.1 x v.1 v.0 (rw z.0 at call) in
       let m = moved_small (map_bit h x) q.1 in
       let l = length_push xs x in
       grind (arith, s, m, z)
@@ -39,7 +39,7 @@ module _ {F : Type 0} (g : Mut F (Cursor × (ℕ × Unit {0})) Cursor) (h : List
         let z = chained_keeps (FoldTurn g) Small small_on xs (f, c) q (refl, omega (arith, zeros.0), omega (arith, zeros.1)) runs in
         let i : s.start ≡ 0 = ap (λ (k : Range ℕ). k.start) from in
         let j : s.end ≡ b = ap (λ (k : Range ℕ). k.end) from in
-        subst (λ k. Takes g k (q.1, (x, tt))) (sym z.0) (may q.1 x (omega (arith, z.1, w.0, w.1, e.1.0)) (omega (arith, z.2, w.0, w.1, e.1.0)));
+        rw z.0 (may q.1 x (omega (arith, z.1, w.0, w.1, e.1.0)) (omega (arith, z.2, w.0, w.1, e.1.0)));
   }
 
   -- and the walk goes from bit to bit
@@ -60,8 +60,7 @@ module _ {F : Type 0} (g : Mut F (Cursor × (ℕ × Unit {0})) Cursor) (h : List
 
   pub walk_gives : (c : Cursor) (b : ℕ) (s : Range ℕ) (r : Cursor) → s ≡ record { start = 0; end = b } → (c.region ≡ 0) × (c.byte ≡ 0) → FoldsItems nat_range_steps g s f c r → r ≡ cursor h b
   walk_gives c b s r from zeros runs =
-      let at_0 : (a b : ℕ) → Cursor = λ a b. record { region = a; byte = b } in
-      let begin : c ≡ at_0 0 0 = ap (λ a. at_0 a c.byte) zeros.0 ∙ ap (λ b. at_0 0 b) zeros.1 in
+      let begin : c ≡ cursor h 0 = grind (arith, zeros) in
       let all = range_with_len s.start (s.end - s.start) in
       let i : s.start ≡ 0 = ap (λ (k : Range ℕ). k.start) from in
       let j : s.end ≡ b = ap (λ (k : Range ℕ). k.end) from in
