@@ -47,7 +47,7 @@ pub fn bytes_at<const K: usize>(b: &[u8], at: usize) -> [u8; K]
     bytes
 }
 
-// Kept: a body for each type, since `from_be_bytes` is a method of each type and of no trait; one body over bits would need a cast in each.
+// Kept: a body for each type. What bytes come to is told of each type by itself: one body over a trait of `from_be_bytes` would move these lines into its laws.
 impl Number for u16 {
     ghost width = { 2 };
 

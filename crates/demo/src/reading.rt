@@ -11,6 +11,7 @@ use record::heading::{held_cycle, held_position, is_header, sound};
 use std::io;
 use stored::saved::unpack;
 use stored::sum::checksum;
+use volume_log::log::Log;
 use volume_log::sectors::read_sector;
 
 // Reads the label, the log and its first record.
@@ -23,35 +24,33 @@ pub fn tell_log(rt: &HostRuntime, volume: &Memory) -> io::Result<()> {
     tell_uuid(rt, &label)?;
     match geometry_of(label, volume.size()) {
         Some(geometry) => {
-            tell_sectors(rt, volume, geometry)?;
-            tell_record(rt, volume, geometry)
+            let log = Log {
+                device: volume,
+                geometry,
+            };
+            tell_sectors(rt, log)?;
+            tell_record(rt, log)
         }
         None => rt.println("  the label breaks a limit"),
     }
 }
 
 // The log, sector by sector.
-fn tell_sectors(rt: &HostRuntime, volume: &Memory, geometry: Geometry) -> io::Result<()> {
-    let count = geometry.label.count;
+fn tell_sectors(rt: &HostRuntime, log: Log<'_, Memory>) -> io::Result<()> {
+    let count = log.geometry.label.count;
     println!(rt; "its log, read back: {count} sectors, in cycle 0 but for these")?;
     for index in 0..count {
-        tell_sector(rt, volume, geometry, index)?;
+        tell_sector(rt, log, index)?;
     }
     Ok(())
 }
 
 // A sector of the log, unless it is in cycle 0.
-fn tell_sector(
-    rt: &HostRuntime,
-    volume: &Memory,
-    geometry: Geometry,
-    index: u32,
-) -> io::Result<()> {
-    let at = geometry.sector_of(index as u64);
-    match read_sector(volume, at) {
-        Err(_) => println!(rt; "  volume sector {at} cannot be read"),
+fn tell_sector(rt: &HostRuntime, log: Log<'_, Memory>, index: u32) -> io::Result<()> {
+    match log.read(index as u64) {
+        Err(fault) => println!(rt; "  volume sector {} cannot be read", fault.sector),
         Ok(sector) if held_cycle(&sector) == 0 => Ok(()),
-        Ok(sector) => tell_held(rt, geometry, index, &sector),
+        Ok(sector) => tell_held(rt, log.geometry, index, &sector),
     }
 }
 
@@ -72,10 +71,9 @@ fn tell_held(
 }
 
 // The record on the first two sectors of the log.
-fn tell_record(rt: &HostRuntime, volume: &Memory, geometry: Geometry) -> io::Result<()> {
-    let start = geometry.start();
-    let (Ok(first), Ok(mut stored)) = (read_sector(volume, start), read_sector(volume, start + 1))
-    else {
+fn tell_record(rt: &HostRuntime, log: Log<'_, Memory>) -> io::Result<()> {
+    let geometry = log.geometry;
+    let (Ok(first), Ok(mut stored)) = (log.read(0), log.read(1)) else {
         return rt.println("  its record cannot be read");
     };
     let header = RecordHeader::from(&first);

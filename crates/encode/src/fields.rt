@@ -25,7 +25,7 @@ pub trait PutNumber: Number {
         ensures { b.new ≡ put b.old at (le_bytes Self.width (Self.bits self)) };
 }
 
-// Kept: a body for each type, since `to_be_bytes` is a method of each type and of no trait.
+// Kept: a body for each type, as of `Number`: one body over a trait of `to_be_bytes` would move these lines into its laws.
 impl PutNumber for u16 {
     fn put_be(self, b: &mut [u8], at: usize) {
         put_bytes(b, at, &u16::to_be_bytes(self));

@@ -14,6 +14,9 @@ use label::geometry::Geometry;
 use label::label::Label;
 use label::limits::geometry_of;
 
+// What a record with none before it names in place of that one's log sector.
+const NONE_BEFORE: u32 = 0xFFFF_FFFF;
+
 // Writes the label, a log of zeros and a clearing record, and forces the device; refused with nothing written where a field
 // breaks its limit, and at the first action that the device refuses. `call` says all of it as one equation; `made` says in
 // words what an accepted label leaves on each sector.
@@ -33,11 +36,7 @@ fn write_label<D: Device>(device: &mut D, geometry: Geometry) -> Result<(), Devi
     ensures kept { D.kept device.old device.new }
 {
     device.write(0, &<[u8; 512]>::from(geometry.label))?;
-    write_zeros(
-        device,
-        geometry.label.start as u64,
-        geometry.label.count as u64,
-    )?;
+    write_zeros(device, geometry.start(), geometry.count())?;
     write_first(device, geometry)?;
     settle(device)
 }
@@ -55,6 +54,6 @@ fn write_first<D: Device>(device: &mut D, geometry: Geometry) -> Result<(), Devi
     ensures ran { run (first_writes geometry.label) (D.state device.old) ≡ record { answer = result; after = D.state device.new } }
     ensures kept { D.kept device.old device.new }
 {
-    let record = clearing_record(geometry, (1, 0), 0xFFFF_FFFF);
-    write_range(device, geometry.label.start as u64, &record)
+    let record = clearing_record(geometry, (1, 0), NONE_BEFORE);
+    write_range(device, geometry.start(), &record)
 }

@@ -8,14 +8,14 @@ use crate::geometry::Geometry;
 pub fn join(geometry: Geometry, place: (u32, u32)) -> u64
     ensures { result ≡ position geometry.label place.0 place.1 }
 {
-    place.0 as u64 * geometry.label.count as u64 + place.1 as u64
+    place.0 as u64 * geometry.count() + place.1 as u64
 }
 
 // The pair (cycle, log sector) of a position; none where the cycle has more than 32 bits.
 pub fn split(geometry: Geometry, position: u64) -> Option<(u32, u32)>
     ensures { result ≡ split_of geometry.label position }
 {
-    let count = geometry.label.count as u64;
+    let count = geometry.count();
     let cycle = u32::try_from(position / count).ok()?;
     Some((cycle, (position % count) as u32))
 }

@@ -3,6 +3,7 @@ ghost use Rattle.std.specs.Prelude.{◌≡◌, Bool, true};
 ghost use Rattle.std.proofs.Common.{◌∙◌};
 
 // A key, and when two keys are the same: an equivalence.
+// Kept: a rule of the project asks for a trait of keys with this law; by itself the library's `Eq` would do.
 pub trait Key {
     ghost same: { Self → Self → Bool };
 

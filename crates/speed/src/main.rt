@@ -1,6 +1,7 @@
 // Prints the checksum of a fixed piece of 32 KiB; with an argument, times the checksum over many such pieces.
 #![tactic(auto)]
 
+use crc::running::Crc32c;
 use crc::sum::{crc32c, update};
 use std::alloc::{AllocError, Global};
 use std::time::Instant;
@@ -17,7 +18,7 @@ fn piece(heap: Global) -> Result<Vec<u8>, AllocError> {
 
 // The state after the piece, `PIECES` times over.
 fn over_and_over(bytes: &[u8]) -> u32 {
-    (0..PIECES).fold(0xffff_ffff, |state, _| update(state, bytes))
+    (0..PIECES).fold(Crc32c::new().state, |state, _| update(state, bytes))
 }
 
 // Times the checksum over all pieces.

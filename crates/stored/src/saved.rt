@@ -45,9 +45,9 @@ fn stamp(geometry: Geometry, place: (u32, u32), bytes: &mut [u8])
     ensures { bytes.new ≡ stored geometry.label (position geometry.label place.0 place.1 + 1) (whole_sectors bytes.old) bytes.old }
 {
     let first = join(geometry, place) + 1;
-    // Kept: the place by its number, as in `with_words`, since each sector is written.
+    // Kept: the place by its number, as in `with_words`: what is written chunk by chunk was not proved there.
     for k in 0..whole_sectors(bytes) {
-        let cycle = (first + k as u64) / geometry.label.count as u64;
+        let cycle = (first + k as u64) / geometry.count();
         ((cycle & 0xFFFF_FFFF) as u32).put_be(bytes, 512 * k);
     }
 }

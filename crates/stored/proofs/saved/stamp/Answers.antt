@@ -22,5 +22,5 @@ loop-k-preserved c =
     let e : be32_bytes (bit_and y 4294967295) ≡ be32_bytes y = ap be32_bytes (and_mask y 32) ∙ low_bytes y in
     let h : 512 * (k + 1) ≤ length b = omega arith in
     let l : 4 * (k + 1) ≤ length w = omega (arith, length_cycles L x n) in
-    c.put_be.ensures ∙ ap (λ r. put r (512 * k) (be32_bytes (bit_and y 4294967295))) c.loop-k.invariant
+    c.put_be.ensures ∙ ap (λ m. put c.loop-k.bytes (512 * k) (be32_bytes (bit_and ((x + k) / m) 4294967295))) c.count.ensures ∙ ap (λ r. put r (512 * k) (be32_bytes (bit_and y 4294967295))) c.loop-k.invariant
     ∙ ap (put (with_words k w b) (512 * k)) (e ∙ sym (cycle_at L x n k small)) ∙ word_more k w b h l
