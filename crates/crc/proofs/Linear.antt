@@ -1,5 +1,5 @@
 -- The step of a bit is linear, so a byte's eight steps are a table's entry and a shift. Assumes nothing.
-use Rattle.std.proofs.Common.{◌≡◌, ℕ, zero, suc, ◌+◌, ◌*◌, ◌/◌, ◌%◌, ◌^◌, ◌<◌, List, [], ◌∷◌, ◌++◌, length, take, drop, sym, refl, ap, ◌∙◌, suc-add, suc-mul, add_comm, zero-add, arith, take-append-drop, pow_pos}
+use Rattle.std.proofs.Common.{◌≡◌, ℕ, zero, suc, ◌+◌, ◌*◌, ◌/◌, ◌%◌, ◌^◌, ◌<◌, List, [], ◌∷◌, ◌++◌, length, get_or, take, drop, sym, refl, ap, ◌∙◌, suc-add, suc-mul, add_comm, zero-add, arith, take-append-drop, pow_pos}
 use lib.Bits.{bit_xor, xor_shr, xor_mod, xor_assoc, xor_comm, xor_zero_r, xor_zero_l, xor_shifted, shifted_half, shifted_even}
 use Rattle.std.proofs.Math.Nat.{div-div-eq-div-mul}
 use Rattle.std.proofs.lemmas.Nat.{shr_split, mod_below}
@@ -149,3 +149,12 @@ crc_runs n (suc k) c b =
     let s = crc_of c (take n b) in
     ap (λ i. crc_of (fold crc_of s (first_chunks n k (drop n b))) (drop i b)) e
     ∙ ap (crc_of (fold crc_of s (first_chunks n k (drop n b)))) (sym (drop-drop (k * n) n b)) ∙ crc_runs n k s (drop n b) ∙ crc_cut c n b
+
+-- a list, element by element
+abbrev pub listed : ℕ → (ℕ → ℕ) → List ℕ
+listed zero f = []
+listed (suc n) f = f 0 ∷ listed n (λ k. f (suc k))
+
+pub listed_is : (b : List ℕ) → b ≡ listed (length b) (λ k. get_or b k 0)
+listed_is [] = refl
+listed_is (x ∷ b) = ap (λ r. x ∷ r) (listed_is b)

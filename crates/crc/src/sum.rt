@@ -15,14 +15,13 @@ fn step(c: u32, b: u8) -> u32
     entry(0, low ^ b) ^ (c >> 8)
 }
 
-// Eight bytes as one number, the state added to the lowest four of them: then each byte by the table of the steps that are still to come.
+// Eight bytes, each by the table of the steps that are still to come; the state is added to the first four, read as one number.
 // Kept: the eight entries in two sums, since `last` need not wait for the state: 1.09 of C's speed, where a fold over the bytes gives 1.03 and one sum 0.81.
 fn word(c: u32, b: &[u8; 8]) -> u32
     ensures { result ≡ crc_of c b.now }
 {
-    let sum = u64::from_le_bytes(*b) ^ u64::from(c);
-    let [b0, b1, b2, b3, b4, b5, b6, b7] = sum.to_le_bytes();
-    let last = entry(3, b4) ^ entry(2, b5) ^ entry(1, b6) ^ entry(0, b7);
+    let [b0, b1, b2, b3] = (u32::from_le_bytes([b[0], b[1], b[2], b[3]]) ^ c).to_le_bytes();
+    let last = entry(3, b[4]) ^ entry(2, b[5]) ^ entry(1, b[6]) ^ entry(0, b[7]);
     entry(7, b0) ^ entry(6, b1) ^ entry(5, b2) ^ entry(4, b3) ^ last
 }
 
