@@ -1,8 +1,10 @@
 -- The step of a bit is linear, so a byte's eight steps are a table's entry and a shift. Assumes nothing.
 use Rattle.std.proofs.Common.{◌≡◌, ℕ, zero, suc, ◌+◌, ◌*◌, ◌/◌, ◌%◌, ◌^◌, ◌<◌, List, [], ◌∷◌, ◌++◌, length, get_or, take, drop, sym, refl, ap, ◌∙◌, suc-add, suc-mul, add_comm, zero-add, arith, take-append-drop, pow_pos}
 use lib.Bits.{bit_xor, xor_shr, xor_mod, xor_assoc, xor_comm, xor_zero_r, xor_zero_l, xor_shifted, shifted_half, shifted_even}
+use Rattle.std.proofs.Math.Nat.{div-div-eq-div-mul}
 use Rattle.std.proofs.lemmas.Nat.{shr_split, mod_below}
 use Rattle.std.proofs.lemmas.List.{drop-drop}
+use Rattle.std.specs.Int.{byte_at, bytes_low_first}
 use Rattle.std.specs.List.{fold}
 use Rattle.std.specs.Simd.{first_chunks}
 use Rattle.crc.specs.Crc.{picked, bit_step, steps, byte_step, crc_of}
@@ -72,33 +74,60 @@ carried x y (b ∷ bs) =
     ap (λ s. crc_of s bs) p ∙ carried (steps 8 x) (steps 8 (bit_xor y b)) bs
     ∙ ap (λ s. bit_xor s (crc_of (steps 8 (bit_xor y b)) bs)) (sym (ap (λ n. steps n x) e ∙ steps_add 8 (8 * length bs) x))
 
--- one byte, by a table's entry over all the steps that are to come
-pub peel : (c b : ℕ) (bs : List ℕ) → b < 256 → crc_of c (b ∷ bs) ≡ bit_xor (steps (8 * suc (length bs)) (bit_xor (c % 256) b)) (crc_of (c / 256) bs)
-peel c b bs h =
-    let e : 8 * suc (length bs) ≡ 8 + 8 * length bs = omega arith in
-    ap (λ x. crc_of x bs) (sym (byte_by_table c b h)) ∙ carried (steps 8 (bit_xor (c % 256) b)) (c / 256) bs
-    ∙ ap (λ x. bit_xor x (crc_of (c / 256) bs)) (sym (ap (λ n. steps n (bit_xor (c % 256) b)) e ∙ steps_add 8 (8 * length bs) (bit_xor (c % 256) b)))
-
 -- a byte where the state is used up
-pub spent : (b : ℕ) (bs : List ℕ) → b < 256 → crc_of 0 (b ∷ bs) ≡ bit_xor (steps (8 * suc (length bs)) b) (crc_of 0 bs)
-spent b bs h = peel 0 b bs h ∙ ap (λ x. bit_xor (steps (8 * suc (length bs)) x) (crc_of 0 bs)) (xor_zero_l b)
+pub spent : (b : ℕ) (bs : List ℕ) → crc_of 0 (b ∷ bs) ≡ bit_xor (steps (8 * suc (length bs)) b) (crc_of 0 bs)
+spent b bs =
+    let e : 8 * suc (length bs) ≡ 8 + 8 * length bs = omega arith in
+    ap (λ x. crc_of (steps 8 x) bs) (xor_zero_l b) ∙ ap (λ x. crc_of x bs) (sym (xor_zero_r (steps 8 b))) ∙ carried (steps 8 b) 0 bs
+    ∙ ap (λ x. bit_xor x (crc_of 0 bs)) (sym (ap (λ n. steps n b) e ∙ steps_add 8 (8 * length bs) b))
 
-pub word_is : (c b0 b1 b2 b3 b4 b5 b6 b7 : ℕ) → c < 2 ^ 32 → b0 < 256 → b1 < 256 → b2 < 256 → b3 < 256 → b4 < 256 → b5 < 256 → b6 < 256 → b7 < 256
-    → crc_of c (b0 ∷ b1 ∷ b2 ∷ b3 ∷ b4 ∷ b5 ∷ b6 ∷ b7 ∷ [])
-    ≡ bit_xor (steps 64 (bit_xor (c % 256) b0)) (bit_xor (steps 56 (bit_xor (c / 256 % 256) b1)) (bit_xor (steps 48 (bit_xor (c / 256 / 256 % 256) b2)) (bit_xor (steps 40 (bit_xor (c / 256 / 256 / 256 % 256) b3)) (bit_xor (steps 32 b4) (bit_xor (steps 24 b5) (bit_xor (steps 16 b6) (steps 8 b7)))))))
-word_is c b0 b1 b2 b3 b4 b5 b6 b7 h h0 h1 h2 h3 h4 h5 h6 h7 =
-    let z : c / 256 / 256 / 256 / 256 ≡ 0 = omega arith in
-    peel c b0 (b1 ∷ b2 ∷ b3 ∷ b4 ∷ b5 ∷ b6 ∷ b7 ∷ []) h0 ∙ ap (bit_xor (steps 64 (bit_xor (c % 256) b0)))
-    (peel (c / 256) b1 (b2 ∷ b3 ∷ b4 ∷ b5 ∷ b6 ∷ b7 ∷ []) h1 ∙ ap (bit_xor (steps 56 (bit_xor (c / 256 % 256) b1)))
-    (peel (c / 256 / 256) b2 (b3 ∷ b4 ∷ b5 ∷ b6 ∷ b7 ∷ []) h2 ∙ ap (bit_xor (steps 48 (bit_xor (c / 256 / 256 % 256) b2)))
-    (peel (c / 256 / 256 / 256) b3 (b4 ∷ b5 ∷ b6 ∷ b7 ∷ []) h3 ∙ ap (bit_xor (steps 40 (bit_xor (c / 256 / 256 / 256 % 256) b3)))
-    (ap (λ x. crc_of x (b4 ∷ b5 ∷ b6 ∷ b7 ∷ [])) z
-    ∙ spent b4 (b5 ∷ b6 ∷ b7 ∷ []) h4 ∙ ap (bit_xor (steps 32 b4)) (spent b5 (b6 ∷ b7 ∷ []) h5 ∙ ap (bit_xor (steps 24 b5)) (spent b6 (b7 ∷ []) h6 ∙ ap (bit_xor (steps 16 b6)) (spent b7 [] h7 ∙ xor_zero_r (steps 8 b7))))))))
+-- the bytes of a number from the second on are the bytes of what lies above its first
+byte_above : (i n : ℕ) → byte_at (suc i) n ≡ byte_at i (n / 256)
+byte_above zero n = omega arith
+byte_above (suc i) n =
+    let e : 256 ^ suc (suc i) ≡ 256 * 256 ^ suc i = omega arith in
+    ap (λ p. n / p % 256) e ∙ ap (λ x. x % 256) (sym (div-div-eq-div-mul n 256 (256 ^ suc i)))
 
--- what eight tables give, added up: four by the state and the first four bytes, and four by the others
-pub xor8 : {a0 a1 a2 a3 a4 a5 a6 a7 s0 s1 s2 s3 s4 s5 s6 s7 : ℕ} → a0 ≡ s0 → a1 ≡ s1 → a2 ≡ s2 → a3 ≡ s3 → a4 ≡ s4 → a5 ≡ s5 → a6 ≡ s6 → a7 ≡ s7
-    → bit_xor (bit_xor (bit_xor (bit_xor a0 a1) a2) a3) (bit_xor (bit_xor (bit_xor a4 a5) a6) a7) ≡ bit_xor s0 (bit_xor s1 (bit_xor s2 (bit_xor s3 (bit_xor s4 (bit_xor s5 (bit_xor s6 s7))))))
-xor8 e0 e1 e2 e3 e4 e5 e6 e7 = rw (e0, e1, e2, e3, e4, e5, e6, e7) (simp xor_assoc)
+bytes_above : (i k n : ℕ) → bytes_low_first (suc i) k n ≡ bytes_low_first i k (n / 256)
+bytes_above i zero n = refl
+bytes_above i (suc k) n = rw (byte_above i n, bytes_above (suc i) k n)
+
+-- one byte, with what is added to the state added to the byte
+byte_taken : (s c y : ℕ) → byte_step (bit_xor s c) (y % 256) ≡ bit_xor (byte_step s (bit_xor y c % 256)) (c / 256)
+byte_taken s c y =
+    let l : y % 256 < 256 = omega arith in
+    let m : bit_xor (c % 256) (y % 256) ≡ bit_xor y c % 256 = xor_comm (c % 256) (y % 256) ∙ sym (xor_mod y c 8) in
+    ap (steps 8) (xor_assoc s c (y % 256)) ∙ steps_linear 8 s (bit_xor c (y % 256))
+    ∙ ap (bit_xor (steps 8 s)) (sym (byte_by_table c (y % 256) l) ∙ ap (λ x. bit_xor (steps 8 x) (c / 256)) m)
+    ∙ sym (xor_assoc (steps 8 s) (steps 8 (bit_xor y c % 256)) (c / 256))
+    ∙ ap (λ x. bit_xor x (c / 256)) (sym (steps_linear 8 s (bit_xor y c % 256)))
+
+-- what is added to the state may be added to the bytes, read as one number
+pub taken : (k s c y : ℕ) → c < 256 ^ k → crc_of (bit_xor s c) (bytes_low_first 0 k y) ≡ crc_of s (bytes_low_first 0 k (bit_xor y c))
+taken zero s c y h = let z : c ≡ 0 = omega arith in ap (bit_xor s) z ∙ xor_zero_r s
+taken (suc k) s c y h =
+    let n = bit_xor y c in
+    let l : c / 256 < 256 ^ k = omega arith in
+    ap (crc_of (byte_step (bit_xor s c) (y % 256))) (bytes_above 0 k y)
+    ∙ ap (λ x. crc_of x (bytes_low_first 0 k (y / 256))) (byte_taken s c y)
+    ∙ taken k (byte_step s (n % 256)) (c / 256) (y / 256) l
+    ∙ ap (λ x. crc_of (byte_step s (n % 256)) (bytes_low_first 0 k x)) (sym (xor_shr y c 8))
+    ∙ ap (crc_of (byte_step s (n % 256))) (sym (bytes_above 0 k n))
+
+-- what eight tables give, added up: four by the first four bytes, and four by the others
+pub word_is : {a0 a1 a2 a3 a4 a5 a6 a7 : ℕ} (b0 b1 b2 b3 b4 b5 b6 b7 : ℕ)
+    → a0 ≡ steps 64 b0 → a1 ≡ steps 56 b1 → a2 ≡ steps 48 b2 → a3 ≡ steps 40 b3 → a4 ≡ steps 32 b4 → a5 ≡ steps 24 b5 → a6 ≡ steps 16 b6 → a7 ≡ steps 8 b7
+    → bit_xor (bit_xor (bit_xor (bit_xor a0 a1) a2) a3) (bit_xor (bit_xor (bit_xor a4 a5) a6) a7) ≡ crc_of 0 (b0 ∷ b1 ∷ b2 ∷ b3 ∷ b4 ∷ b5 ∷ b6 ∷ b7 ∷ [])
+word_is b0 b1 b2 b3 b4 b5 b6 b7 e0 e1 e2 e3 e4 e5 e6 e7 =
+    let r7 = spent b7 [] ∙ xor_zero_r (steps 8 b7) in
+    let r6 = spent b6 (b7 ∷ []) in
+    let r5 = spent b5 (b6 ∷ b7 ∷ []) in
+    let r4 = spent b4 (b5 ∷ b6 ∷ b7 ∷ []) in
+    let r3 = spent b3 (b4 ∷ b5 ∷ b6 ∷ b7 ∷ []) in
+    let r2 = spent b2 (b3 ∷ b4 ∷ b5 ∷ b6 ∷ b7 ∷ []) in
+    let r1 = spent b1 (b2 ∷ b3 ∷ b4 ∷ b5 ∷ b6 ∷ b7 ∷ []) in
+    let r0 = spent b0 (b1 ∷ b2 ∷ b3 ∷ b4 ∷ b5 ∷ b6 ∷ b7 ∷ []) in
+    rw (e0, e1, e2, e3, e4, e5, e6, e7, r0, r1, r2, r3, r4, r5, r6, r7) (simp xor_assoc)
 
 -- bytes one after the other, cut in two
 pub crc_append : (c : ℕ) (a b : List ℕ) → crc_of c (a ++ b) ≡ crc_of (crc_of c a) b
