@@ -5,7 +5,7 @@ ghost use Rattle.buffer.specs.Walk.{moved, cursor};
 use crate::map::Map;
 
 // A data region, and a byte in it.
-#[derive(Clone, Copy, Default)]
+#[derive(Debug, Clone, Copy, Default, PartialEq, Eq)]
 pub struct Cursor {
     pub region: usize,
     pub byte: usize,
