@@ -28,12 +28,12 @@ pub(crate) fn runs_match(map: Map<'_>, item: Item<'_>) -> bool
         if i == 0 {
             continue;
         }
-        let first = map.next_set(b);
-        let end = map.run_end(first);
+        let first = map.first(true, b);
+        let end = map.first(false, first);
         if first == map.bits || !is_run(item.bytes, *place, end - first) {
             return false;
         }
         b = end;
     }
-    map.next_set(b) == map.bits
+    map.first(true, b) == map.bits
 }
