@@ -4,7 +4,7 @@ ghost use Rattle.codec.specs.Fields.{joined};
 ghost use Rattle.item.specs.Buffer.{regions_fit, cover, buffer_meaning};
 ghost use Rattle.item.specs.Covers.{cover_of, overlay, covers_sector, laid};
 ghost use Rattle.item.specs.Items.{regions_of};
-ghost use Rattle.buffer.specs.Runs.{bits_of};
+ghost use Rattle.buffer.specs.Bits.{bits_of};
 
 use crate::cursor::Cursor;
 use crate::map::Map;

@@ -1,5 +1,5 @@
 // The map of a buffer.
-ghost use Rattle.std.specs.Prelude.{◌≡◌, ◌-◌, ◌*◌, ◌≤◌, drop};
+ghost use Rattle.std.specs.Prelude.{◌≡◌, ◌-◌, ◌*◌, ◌<◌, ◌≤◌, ◌^◌, drop};
 ghost use Rattle.item.specs.Buffer.{map_bit, map_bits, none_set, buffer_length};
 ghost use Rattle.buffer.specs.Runs.{FirstBit};
 
@@ -10,6 +10,8 @@ use codec::fields::Number;
 pub(crate) struct Map<'a> {
     pub(crate) head: &'a [u8],
     pub(crate) bits: usize,
+    // far more than 4 for each sector of a length of 16 bits
+    ghost few: { bits < 2 ^ 20 },
 }
 
 impl<'a> Map<'a> {
