@@ -36,7 +36,6 @@ fn lay_chunk(sector: &mut [u8; 512], i: usize, region: &[u8], byte: usize)
 
 // Lays the chunks of sector k of a map's range, where the regions fit the map.
 fn lay_chunks(map: Map<'_>, rest: Item<'_>, k: usize, sector: &mut [u8; 512])
-    requires few { map.bits ≤ 256 }
     requires within { 4 * k + 4 ≤ map.bits }
     requires fits { regions_fit (bits_of map) (regions_of rest) ≡ true }
     ensures { sector.new ≡ overlay (cover_of (cover (bits_of map.entry) (joined (regions_of rest.entry))) k) sector.old }
