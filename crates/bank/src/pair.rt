@@ -32,7 +32,7 @@ impl<A: ItemBank, B: ItemBank> ItemBank for Pair<A, B> {
             .or(self.second.classify(number, item))
     }
 
-    // Kept: the two banks are of two types, so no one value stands for the bank that has the number; `covers` and `lay` ask first.
+    // Kept: `covers` and `lay` give no `Option`, so they ask which of the two banks has the number.
     fn covers(&self, number: u16, item: Item<'_>, j: usize) -> bool {
         if self.first.has(number) {
             self.first.covers(number, item, j)
