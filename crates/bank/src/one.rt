@@ -8,7 +8,7 @@ use item::item::Item;
 use item::kind::ItemKind;
 
 // A kind, under its type numbers.
-#[derive(Drop)]
+#[derive(Debug, Clone, Copy, PartialEq, Eq, Drop)]
 pub struct One<K> {
     pub kind: K,
 }
@@ -27,12 +27,7 @@ impl<K: ItemKind> ItemBank for One<K> {
     }
 
     fn classify(&self, number: u16, item: Item<'_>) -> Option<Class> {
-        // Kept: with `then` it stays open what a closure that captures `item` gives; tried bare, with `move`, and with an answer by cases.
-        if self.kind.has(number) {
-            Some(self.kind.classify(item))
-        } else {
-            None
-        }
+        self.kind.has(number).then_some(self.kind.classify(item))
     }
 
     fn covers(&self, number: u16, item: Item<'_>, j: usize) -> bool {

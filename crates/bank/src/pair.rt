@@ -7,7 +7,7 @@ use item::class::Class;
 use item::item::Item;
 
 // The kinds of two banks; where both have a kind for a number, it is that of the first.
-#[derive(Drop)]
+#[derive(Debug, Clone, Copy, PartialEq, Eq, Drop)]
 pub struct Pair<A, B> {
     pub first: A,
     pub second: B,
@@ -23,21 +23,16 @@ impl<A: ItemBank, B: ItemBank> ItemBank for Pair<A, B> {
     }
 
     fn is_early(&self, number: u16) -> Option<bool> {
-        if self.first.has(number) {
-            self.first.is_early(number)
-        } else {
-            self.second.is_early(number)
-        }
+        self.first.is_early(number).or(self.second.is_early(number))
     }
 
     fn classify(&self, number: u16, item: Item<'_>) -> Option<Class> {
-        if self.first.has(number) {
-            self.first.classify(number, item)
-        } else {
-            self.second.classify(number, item)
-        }
+        self.first
+            .classify(number, item)
+            .or(self.second.classify(number, item))
     }
 
+    // Kept: `covers` and `lay` give no `Option`, so they ask which of the two banks has the number.
     fn covers(&self, number: u16, item: Item<'_>, j: usize) -> bool {
         if self.first.has(number) {
             self.first.covers(number, item, j)

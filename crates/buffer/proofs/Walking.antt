@@ -1,5 +1,5 @@
 -- A walk over a map as a fold over the numbers of its bits. Assumes nothing.
-use Rattle.std.proofs.Common.{◌≡◌, ℕ, suc, ◌+◌, ◌-◌, ◌*◌, ◌<◌, ◌≤◌, List, [], ◌∷◌, ◌++◌, length, get_or, refl, sym, ap, ◌∙◌, arith}
+use Rattle.std.proofs.Common.{◌≡◌, ℕ, suc, ◌+◌, ◌-◌, ◌*◌, ◌^◌, ◌<◌, ◌≤◌, List, [], ◌∷◌, ◌++◌, length, get_or, refl, sym, ap, ◌∙◌, arith}
 use Rattle.std.proofs.iter.Yields.{nat_range_steps, Range-gives}
 use Rattle.std.proofs.lemmas.Fn.{chained_keeps, fold_over}
 use Rattle.std.proofs.lemmas.List.{length_push, get_or_push, get_or_append_left}
@@ -31,8 +31,8 @@ module _ {F : Type 0} (g : Mut F (Cursor × (ℕ × Unit {0})) Cursor) (h : List
       let l = length_push xs x in
       grind (arith, s, m, z)
 
-  pub walk_callable : (c : Cursor) (b : ℕ) (s : Range ℕ) → s ≡ record { start = 0; end = b } → b ≤ 256 → (c.region ≡ 0) × (c.byte ≡ 0)
-      → ((at : Cursor) (k : ℕ) → at.region < 1000 → at.byte < 100000 → Takes g f (at, (k, tt))) → CallableAtEachTurn nat_range_steps (FoldTurn g) (λ p x. Takes g p.0 (p.1, (x, tt))) s (f, c)
+  pub walk_callable : (c : Cursor) (b : ℕ) (s : Range ℕ) → s ≡ record { start = 0; end = b } → b < 2 ^ 20 → (c.region ≡ 0) × (c.byte ≡ 0)
+      → ((at : Cursor) (k : ℕ) → at.region < 2 ^ 20 → at.byte < 2 ^ 27 → Takes g f (at, (k, tt))) → CallableAtEachTurn nat_range_steps (FoldTurn g) (λ p x. Takes g p.0 (p.1, (x, tt))) s (f, c)
   walk_callable c b s from few zeros may = record {
     at = λ xs t q x u y runs e.
         let w = further xs s t y in

@@ -1,3 +1,4 @@
 pub mod Runs
+pub mod Bits
 pub mod Walk
 pub mod Cases

@@ -1,11 +1,6 @@
--- The bits of a buffer's map, and where runs of set ones begin and end. Assumes nothing.
+-- Where runs of set bits of a buffer's map begin and end. Assumes nothing.
 use Rattle.std.specs.Prelude.{◌≡◌, ℕ, ◌<◌, ◌≤◌, Bool, true, false, not, List}
-use Rattle.item.specs.Buffer.{map_bit, map_bits}
-use Rattle.buffer.specs.declared.map.Map.{Map}
-
--- the bits of a map that stand for chunks
-abbrev pub bits_of : Map → List Bool
-bits_of map = map_bits map.head.now 0 map.bits
+use Rattle.item.specs.Buffer.{map_bit}
 
 -- r is the first bit of the map h from b on that is as wanted, or n if none below it is
 abbrev pub FirstBit : Bool → List ℕ → ℕ → ℕ → ℕ → Type 0

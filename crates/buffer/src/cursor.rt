@@ -1,11 +1,11 @@
 // A place in the data regions of a buffer.
-ghost use Rattle.std.specs.Prelude.{◌≡◌, ◌<◌, ◌≤◌};
+ghost use Rattle.std.specs.Prelude.{◌≡◌, ◌<◌, ◌^◌};
 ghost use Rattle.buffer.specs.Walk.{moved, cursor};
 
 use crate::map::Map;
 
 // A data region, and a byte in it.
-#[derive(Clone, Copy, Default)]
+#[derive(Debug, Clone, Copy, Default, PartialEq, Eq)]
 pub struct Cursor {
     pub region: usize,
     pub byte: usize,
@@ -14,8 +14,8 @@ pub struct Cursor {
 impl Cursor {
     // Past one chunk, set or not.
     pub(crate) fn step_past(self, here: bool) -> Cursor
-        requires few { self.region < 1000 }
-        requires near { self.byte < 100000 }
+        requires few { self.region < 2 ^ 20 }
+        requires near { self.byte < 2 ^ 27 }
         ensures { result ≡ moved here self }
     {
         if here {
@@ -35,7 +35,7 @@ impl Cursor {
 
     // Where the walk over a map stands before chunk b.
     pub(crate) fn before(map: Map<'_>, b: usize) -> Cursor
-        requires { b ≤ 256 }
+        requires { b < 2 ^ 20 }
         ensures { result ≡ cursor map.entry.head.now b }
     {
         (0..b).fold(Cursor::default(), |at, k| at.step_past(map.bit(k)))

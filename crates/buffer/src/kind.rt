@@ -9,7 +9,7 @@ use item::item::Item;
 use item::kind::ItemKind;
 
 // Buffers, of type 0x123C.
-#[derive(Drop)]
+#[derive(Debug, Clone, Copy, PartialEq, Eq)]
 pub struct Buffers;
 
 // Kept: kinds are open, each with the numbers of its own types, so no enum has them all.

@@ -4,7 +4,7 @@ ghost use Rattle.codec.specs.Fields.{joined};
 ghost use Rattle.item.specs.Buffer.{regions_fit, cover, buffer_meaning};
 ghost use Rattle.item.specs.Covers.{cover_of, overlay, covers_sector, laid};
 ghost use Rattle.item.specs.Items.{regions_of};
-ghost use Rattle.buffer.specs.Runs.{bits_of};
+ghost use Rattle.buffer.specs.Bits.{bits_of};
 
 use crate::cursor::Cursor;
 use crate::map::Map;
@@ -36,7 +36,6 @@ fn lay_chunk(sector: &mut [u8; 512], i: usize, region: &[u8], byte: usize)
 
 // Lays the chunks of sector k of a map's range, where the regions fit the map.
 fn lay_chunks(map: Map<'_>, rest: Item<'_>, k: usize, sector: &mut [u8; 512])
-    requires few { map.bits ≤ 256 }
     requires within { 4 * k + 4 ≤ map.bits }
     requires fits { regions_fit (bits_of map) (regions_of rest) ≡ true }
     ensures { sector.new ≡ overlay (cover_of (cover (bits_of map.entry) (joined (regions_of rest.entry))) k) sector.old }

@@ -1,15 +1,17 @@
 // The map of a buffer.
-ghost use Rattle.std.specs.Prelude.{◌≡◌, ◌-◌, ◌*◌, ◌≤◌, drop};
+ghost use Rattle.std.specs.Prelude.{◌≡◌, ◌-◌, ◌*◌, ◌<◌, ◌≤◌, ◌^◌, drop};
 ghost use Rattle.item.specs.Buffer.{map_bit, map_bits, none_set, buffer_length};
-ghost use Rattle.buffer.specs.Runs.{FirstBit, FirstSet, RunTo};
+ghost use Rattle.buffer.specs.Runs.{FirstBit};
 
 use codec::fields::Number;
 
 // A first region, and how many bits of its map stand for chunks of the range.
-#[derive(Clone, Copy)]
+#[derive(Debug, Clone, Copy, PartialEq, Eq)]
 pub(crate) struct Map<'a> {
     pub(crate) head: &'a [u8],
     pub(crate) bits: usize,
+    // far more than 4 for each sector of a length of 16 bits
+    ghost few: { bits < 2 ^ 20 },
 }
 
 impl<'a> Map<'a> {
@@ -33,29 +35,13 @@ impl<'a> Map<'a> {
     }
 
     // The first bit from b on that is as wanted, or the number of bits.
-    fn first(&self, wanted: bool, b: usize) -> usize
+    pub(crate) fn first(&self, wanted: bool, b: usize) -> usize
         requires { b ≤ self.now.bits }
         ensures { FirstBit wanted self.now.head.now self.now.bits b result }
     {
         (b..self.bits)
             .find(|&k| self.bit(k) == wanted)
             .unwrap_or(self.bits)
-    }
-
-    // The first set bit from b on, or the number of bits.
-    pub(crate) fn next_set(&self, b: usize) -> usize
-        requires { b ≤ self.now.bits }
-        ensures { FirstSet self.now.head.now self.now.bits b result }
-    {
-        self.first(true, b)
-    }
-
-    // Where the run that begins at b ends.
-    pub(crate) fn run_end(&self, b: usize) -> usize
-        requires { b ≤ self.now.bits }
-        ensures { RunTo self.now.head.now self.now.bits b result }
-    {
-        self.first(false, b)
     }
 
     // Whether no bit from n to m is set.

@@ -1,9 +1,9 @@
 // The runs of a map, and the regions that they take.
-ghost use Rattle.std.specs.Prelude.{◌≡◌, ◌*◌, ◌≤◌, length, drop, ◌==◌};
+ghost use Rattle.std.specs.Prelude.{◌≡◌, ◌*◌, ◌<◌, ◌^◌, length, drop, ◌==◌};
 ghost use Rattle.item.specs.Buffer.{regions_fit};
 ghost use Rattle.item.specs.Items.{regions_of};
 ghost use Rattle.item.specs.Regions.{region};
-ghost use Rattle.buffer.specs.Runs.{bits_of};
+ghost use Rattle.buffer.specs.Bits.{bits_of};
 
 use crate::map::Map;
 use item::item::Item;
@@ -11,7 +11,7 @@ use item::place::Place;
 
 // Whether a region is of just the size of a run of `chunks` set bits.
 fn is_run(bytes: &[u8], place: Place, chunks: usize) -> bool
-    requires { chunks ≤ 65536 }
+    requires { chunks < 2 ^ 20 }
     ensures { result ≡ (length (region bytes.now place) == 128 * chunks) }
 {
     place.region(bytes).len() == 128 * chunks
@@ -19,7 +19,6 @@ fn is_run(bytes: &[u8], place: Place, chunks: usize) -> bool
 
 // Whether each run of the map has one region of just its size, in order, after the first region.
 pub(crate) fn runs_match(map: Map<'_>, item: Item<'_>) -> bool
-    requires { map.bits ≤ 65536 }
     ensures { result ≡ regions_fit (bits_of map.entry) (drop 1 (regions_of item.entry)) }
 {
     let mut b = 0;
@@ -28,12 +27,12 @@ pub(crate) fn runs_match(map: Map<'_>, item: Item<'_>) -> bool
         if i == 0 {
             continue;
         }
-        let first = map.next_set(b);
-        let end = map.run_end(first);
+        let first = map.first(true, b);
+        let end = map.first(false, first);
         if first == map.bits || !is_run(item.bytes, *place, end - first) {
             return false;
         }
         b = end;
     }
-    map.next_set(b) == map.bits
+    map.first(true, b) == map.bits
 }

@@ -29,9 +29,8 @@ fn has_sound_map(head: &[u8]) -> bool
         && Map::of(head).none_set(4 * length, 32 * words)
 }
 
-// What a buffer of a right length asks, by its flags.
+// What a buffer asks by its flags, whatever its length.
 fn flagged(head: &[u8], item: Item<'_>) -> Class
-    requires { buffer_length head.now ≤ 64 }
     ensures { result ≡ class_of (flagged (le16 head.now 4) head.now (drop 1 (regions_of item.entry))) }
 {
     let key = PatchKey {

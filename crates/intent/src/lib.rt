@@ -13,7 +13,7 @@ use item::item::Item;
 use item::kind::ItemKind;
 
 // Intents to free something, and what closes them.
-#[derive(Drop)]
+#[derive(Debug, Clone, Copy, PartialEq, Eq)]
 pub struct FreeIntents;
 
 // Kept: any number but OPEN closes what it names, so an enum of the two types would need a third variant that acts as its second.

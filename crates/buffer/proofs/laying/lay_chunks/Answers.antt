@@ -3,7 +3,7 @@ use Rattle.codec.specs.Fields.{joined}
 use Rattle.item.specs.Buffer.{cover}
 use Rattle.item.specs.Covers.{cover_of}
 use Rattle.item.specs.Items.{regions_of}
-use Rattle.buffer.specs.Runs.{bits_of}
+use Rattle.buffer.specs.Bits.{bits_of}
 use Rattle.buffer.proofs.Lays.{small_at, has_room, stepped, turn_set, turn_clear, laid_all, Laid}
 use Rattle.buffer.proofs.laying.lay_chunks.Goals as goal
 use Rattle.buffer.proofs.laying.lay_chunks.Goals.{then-here, else-here}

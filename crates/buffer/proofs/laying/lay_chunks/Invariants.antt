@@ -3,7 +3,7 @@ use Rattle.codec.specs.Fields.{joined}
 use Rattle.item.specs.Buffer.{cover}
 use Rattle.item.specs.Covers.{cover_of}
 use Rattle.item.specs.Items.{regions_of}
-use Rattle.buffer.specs.Runs.{bits_of}
+use Rattle.buffer.specs.Bits.{bits_of}
 use Rattle.buffer.specs.Walk.{cursor}
 use Rattle.buffer.proofs.Lays.{Laid}
 use Rattle.buffer.proofs.laying.lay_chunks.Given as goal

@@ -1,7 +1,7 @@
 use Rattle.std.proofs.Common.{◌≡◌, ◌-◌, ◌≤◌, drop}
 use Rattle.item.specs.Buffer.{regions_fit}
 use Rattle.item.specs.Items.{regions_of}
-use Rattle.buffer.specs.Runs.{bits_of}
+use Rattle.buffer.specs.Bits.{bits_of}
 use Rattle.buffer.proofs.Matching.{left}
 use Rattle.buffer.proofs.runs.runs_match.Given as goal
 
