@@ -2,18 +2,21 @@
 ghost use Rattle.std.specs.Prelude.{◌≡◌};
 ghost use Rattle.device.specs.Faults.{cause_number};
 
-use std::error::Error;
-use std::fmt;
+use thiserror::Error;
 
 // No action is left, the sector cannot be read, or it lies beyond the device's end.
-#[derive(Clone, Copy, PartialEq, Eq, Debug)]
+#[derive(Clone, Copy, PartialEq, Eq, Debug, Error)]
 pub enum Cause {
+    #[error("no action is left")]
     Spent,
+    #[error("the sector cannot be read")]
     Unreadable,
+    #[error("the sector lies beyond the end")]
     Beyond,
 }
 
-#[derive(Clone, Copy, PartialEq, Eq, Debug)]
+#[derive(Clone, Copy, PartialEq, Eq, Debug, Error)]
+#[error("{cause}: sector {sector}")]
 pub struct DeviceFault {
     pub cause: Cause,
     pub sector: u64,
@@ -44,21 +47,3 @@ impl DeviceFault {
         }
     }
 }
-
-impl fmt::Display for Cause {
-    fn fmt<W: fmt::Write>(&self, f: &mut fmt::Formatter<W>) -> fmt::Result {
-        f.write_str(match self {
-            Cause::Spent => "no action is left",
-            Cause::Unreadable => "the sector cannot be read",
-            Cause::Beyond => "the sector lies beyond the end",
-        })
-    }
-}
-
-impl fmt::Display for DeviceFault {
-    fn fmt<W: fmt::Write>(&self, f: &mut fmt::Formatter<W>) -> fmt::Result {
-        write!(f, "{}: sector {}", self.cause, self.sector)
-    }
-}
-
-impl Error for DeviceFault {}
