@@ -4,15 +4,15 @@ ghost use Rattle.device.specs.Faults.{cause_number};
 
 use thiserror::Error;
 
-// No action is left, the sector cannot be read, or it lies beyond the device's end.
+// No action is left, the sector cannot be read, or it lies beyond the device's end: each with the number under which it is told.
 #[derive(Clone, Copy, PartialEq, Eq, Debug, Error)]
 pub enum Cause {
     #[error("no action is left")]
-    Spent,
+    Spent = 2,
     #[error("the sector cannot be read")]
-    Unreadable,
+    Unreadable = 3,
     #[error("the sector lies beyond the end")]
-    Beyond,
+    Beyond = 13,
 }
 
 #[derive(Clone, Copy, PartialEq, Eq, Debug, Error)]
@@ -36,14 +36,9 @@ impl Cause {
 
 impl DeviceFault {
     // The number under which a refusal is told.
-    // Kept: a refusal is known by its number in every rule and promise; the enum is what code goes by.
     pub fn number(&self) -> u8
         ensures { result ≡ cause_number self.now.cause }
     {
-        match self.cause {
-            Cause::Spent => 2,
-            Cause::Unreadable => 3,
-            Cause::Beyond => 13,
-        }
+        self.cause as u8
     }
 }
