@@ -2,18 +2,21 @@
 ghost use Rattle.std.specs.Prelude.{◌≡◌};
 ghost use Rattle.device.specs.Faults.{cause_number};
 
-use std::error::Error;
-use std::fmt;
+use thiserror::Error;
 
-// No action is left, the sector cannot be read, or it lies beyond the device's end.
-#[derive(Clone, Copy, PartialEq, Eq, Debug)]
+// No action is left, the sector cannot be read, or it lies beyond the device's end: each with the number under which it is told.
+#[derive(Clone, Copy, PartialEq, Eq, Debug, Error)]
 pub enum Cause {
-    Spent,
-    Unreadable,
-    Beyond,
+    #[error("no action is left")]
+    Spent = 2,
+    #[error("the sector cannot be read")]
+    Unreadable = 3,
+    #[error("the sector lies beyond the end")]
+    Beyond = 13,
 }
 
-#[derive(Clone, Copy, PartialEq, Eq, Debug)]
+#[derive(Clone, Copy, PartialEq, Eq, Debug, Error)]
+#[error("{cause}: sector {sector}")]
 pub struct DeviceFault {
     pub cause: Cause,
     pub sector: u64,
@@ -33,32 +36,9 @@ impl Cause {
 
 impl DeviceFault {
     // The number under which a refusal is told.
-    // Kept: a refusal is known by its number in every rule and promise; the enum is what code goes by.
     pub fn number(&self) -> u8
         ensures { result ≡ cause_number self.now.cause }
     {
-        match self.cause {
-            Cause::Spent => 2,
-            Cause::Unreadable => 3,
-            Cause::Beyond => 13,
-        }
+        self.cause as u8
     }
 }
-
-impl fmt::Display for Cause {
-    fn fmt<W: fmt::Write>(&self, f: &mut fmt::Formatter<W>) -> fmt::Result {
-        f.write_str(match self {
-            Cause::Spent => "no action is left",
-            Cause::Unreadable => "the sector cannot be read",
-            Cause::Beyond => "the sector lies beyond the end",
-        })
-    }
-}
-
-impl fmt::Display for DeviceFault {
-    fn fmt<W: fmt::Write>(&self, f: &mut fmt::Formatter<W>) -> fmt::Result {
-        write!(f, "{}: sector {}", self.cause, self.sector)
-    }
-}
-
-impl Error for DeviceFault {}

@@ -6,8 +6,6 @@ ghost use Rattle.faults.specs.declared.cause.Fault.TheVariants.{Device};
 use crate::cause::Fault;
 use crate::refusal::{Layer, Refusal};
 use device::fault::DeviceFault;
-use std::error::Error;
-use std::fmt;
 
 // The device's refusal travels up as it is.
 impl From<DeviceFault> for Fault {
@@ -39,14 +37,3 @@ impl From<Fault> for Refusal {
         }
     }
 }
-
-impl fmt::Display for Fault {
-    fn fmt<W: fmt::Write>(&self, f: &mut fmt::Formatter<W>) -> fmt::Result {
-        match self {
-            Fault::Device(fault) => write!(f, "{fault}"),
-            Fault::Label => f.write_str("a field of the label breaks its limit"),
-        }
-    }
-}
-
-impl Error for Fault {}

@@ -3,8 +3,7 @@ ghost use Rattle.std.specs.Prelude.{◌≡◌, ◌^◌, ◌<◌, ◌≤◌, vec_
 ghost use Rattle.memory.specs.Cells.{lost_count};
 
 use crate::cell::Cell;
-use std::error::Error;
-use std::fmt;
+use thiserror::Error;
 
 pub mod calls;
 
@@ -20,24 +19,15 @@ pub struct Memory {
 }
 
 // Which limit of a device in memory is broken.
-#[derive(Clone, Copy, PartialEq, Eq, Debug)]
+#[derive(Clone, Copy, PartialEq, Eq, Debug, Error)]
 pub enum MemoryLimit {
+    #[error("too many sectors")]
     Sectors,
+    #[error("too many sectors that cannot be read")]
     Unreadable,
+    #[error("too many actions")]
     Actions,
 }
-
-impl fmt::Display for MemoryLimit {
-    fn fmt<W: fmt::Write>(&self, f: &mut fmt::Formatter<W>) -> fmt::Result {
-        f.write_str(match self {
-            MemoryLimit::Sectors => "too many sectors",
-            MemoryLimit::Unreadable => "too many sectors that cannot be read",
-            MemoryLimit::Actions => "too many actions",
-        })
-    }
-}
-
-impl Error for MemoryLimit {}
 
 impl Memory {
     // Whether a force came after the last write.

@@ -1,7 +1,8 @@
 // A run of sectors, and calls on that part of a device: cut off at the device's end, a refusal names the part's own sector.
-ghost use Rattle.std.specs.Prelude.{◌≡◌};
+ghost use Rattle.std.specs.Prelude.{◌≡◌, ◌+◌, Ok, Err, cond, nat_lt};
+ghost use Rattle.device.specs.declared.fault.Cause.TheVariants.{Beyond};
 ghost use Rattle.slicing.specs.Slices.{slice_state, slice_write};
-ghost use Rattle.device.specs.Steps.{read_answer, read_bytes, write_answer};
+ghost use Rattle.device.specs.Steps.{fault, read_answer, read_bytes, write_answer};
 
 use device::fault::{Cause, DeviceFault};
 use device::interface::Device;
@@ -21,15 +22,22 @@ impl Extent {
         d.size().saturating_sub(self.start).min(self.count)
     }
 
+    // Where `sector` of this part lies on `d`.
+    fn place<D: Device>(self, d: &D, sector: u64) -> Result<u64, DeviceFault>
+        ensures { result ≡ cond (nat_lt sector (slice_state (D.state d.now) self.start self.count).size) (Ok (self.start + sector)) (Err (fault Beyond sector)) }
+    {
+        if sector >= self.size(d) {
+            return Err(Cause::Beyond.at(sector));
+        }
+        Ok(self.start + sector)
+    }
+
     // Reads a sector of this part of `d`.
     pub fn read<D: Device>(self, d: &D, sector: u64, out: &mut [u8; 512]) -> Result<(), DeviceFault>
         ensures answer { result ≡ read_answer (slice_state (D.state d.now) self.start self.count) sector }
         ensures bytes { out.new ≡ read_bytes (slice_state (D.state d.now) self.start self.count) sector out.old }
     {
-        if sector >= self.size(d) {
-            return Err(Cause::Beyond.at(sector));
-        }
-        d.read(self.start + sector, out)
+        d.read(self.place(d, sector)?, out)
             .map_err(|fault| fault.cause.at(sector))
     }
 
@@ -44,10 +52,8 @@ impl Extent {
         ensures after { D.state d.new ≡ slice_write (D.state d.old) self.start self.count sector bytes.now }
         ensures kept { D.kept d.old d.new }
     {
-        if sector >= self.size(d) {
-            return Err(Cause::Beyond.at(sector));
-        }
-        d.write(self.start + sector, bytes)
+        let place = self.place(d, sector)?;
+        d.write(place, bytes)
             .map_err(|fault| fault.cause.at(sector))
     }
 }

@@ -1,8 +1,10 @@
 // The causes of a refusal.
 use device::fault::DeviceFault;
+use thiserror::Error;
 
 // A refusal of the device, unaltered, or a fault of the label or the log, with the volume sector where it is found.
-#[derive(Clone, Copy, PartialEq, Eq, Debug)]
+#[derive(Clone, Copy, PartialEq, Eq, Debug, Error)]
+#[error("refused {} at sector {}", self.number(), self.sector())]
 pub enum LogFault {
     Device(DeviceFault),
     // a field of the label breaks its limit
@@ -18,5 +20,6 @@ pub enum LogFault {
     // the chain is broken
     Chain { sector: u64 },
     // a checksum is wrong
+    #[error("record at sector {sector}: checksum wrong, refused {}", self.number())]
     Checksum { sector: u64 },
 }

@@ -5,8 +5,6 @@ ghost use Rattle.volume_log.specs.declared.cause.LogFault.TheVariants.{Device};
 
 use crate::cause::LogFault;
 use device::fault::DeviceFault;
-use std::error::Error;
-use std::fmt;
 
 // The device's refusal travels up as it is.
 impl From<DeviceFault> for LogFault {
@@ -49,21 +47,3 @@ impl LogFault {
         }
     }
 }
-
-impl fmt::Display for LogFault {
-    fn fmt<W: fmt::Write>(&self, f: &mut fmt::Formatter<W>) -> fmt::Result {
-        let number = self.number();
-        let sector = self.sector();
-        match self {
-            LogFault::Checksum { .. } => {
-                write!(
-                    f,
-                    "record at sector {sector}: checksum wrong, refused {number}"
-                )
-            }
-            _ => write!(f, "refused {number} at sector {sector}"),
-        }
-    }
-}
-
-impl Error for LogFault {}
