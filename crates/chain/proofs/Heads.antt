@@ -1,5 +1,5 @@
 -- A header that was found due. Assumes nothing.
-use Rattle.std.proofs.Common.{◌≡◌, ℕ, ◌+◌, ◌/◌, ◌%◌, ◌≤◌, true, not, eqb, leb, List, Ok, Err, ap, ◌∙◌, arith}
+use Rattle.std.proofs.Common.{◌≡◌, ℕ, ◌+◌, ◌/◌, ◌%◌, ◌≤◌, Bool, true, false, cond, not, eqb, leb, List, Some, None, Option, Ok, Err, refl, ap, ◌∙◌, arith}
 use Rattle.std.proofs.lemmas.Bool.{and_parts, eqb-true, leb-true, le-leb}
 use Rattle.device.specs.State.{DevState}
 use Rattle.device.specs.Steps.{read}
@@ -10,7 +10,23 @@ use Rattle.record.specs.declared.header.RecordHeader.{RecordHeader}
 use Rattle.record.specs.Record.{is_header, header_of, sound, end_of}
 use Rattle.model.specs.Refusals.{Refusal, refusal, by_record, by_session, Outcome, ◌>>=◌, need, from_device}
 use Rattle.model.proofs.Outcomes.{need_ok, bind_ok}
+use Rattle.volume_log.specs.Seeking.{sound_header}
 use Rattle.chain.specs.Records.{header_due, due_answer, header_on}
+
+-- what is due at x, by the sound header there
+abbrev pub answer_by : Label → ℕ → ℕ → Option RecordHeader → Outcome RecordHeader
+answer_by L e x None = Err (refusal 8 by_record (volume_sector L x) 0)
+answer_by L e x (Some r) = need (leb (end_of r x) e) (refusal 8 by_record (volume_sector L x) 0) >>= λ _. Ok r
+
+pub due_by : (L : Label) (e x : ℕ) (b : List ℕ) → due_answer L e x b ≡ (sound_header L x b >>= λ o. answer_by L e x o)
+due_by L e x b = by_parts (is_header b) (sound L (header_of b) x)
+  where
+    by_parts : (a s : Bool) → ((need a (refusal 8 by_record (volume_sector L x) 0) >>= λ _. need s (refusal 7 by_record (volume_sector L x) 0) >>= λ _.
+        need (leb (end_of (header_of b) x) e) (refusal 8 by_record (volume_sector L x) 0)) >>= λ _. Ok (header_of b))
+        ≡ (cond a (need s (refusal 7 by_record (volume_sector L x) 0) >>= λ _. Ok (Some (header_of b))) (Ok None) >>= λ o. answer_by L e x o)
+    by_parts true true = refl
+    by_parts true false = refl
+    by_parts false s = refl
 
 -- what is known of it
 pub record Due (L : Label) (e x room : ℕ) (b : List ℕ) : Type 0 where

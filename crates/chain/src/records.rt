@@ -10,9 +10,8 @@ use crate::due::DueHeader;
 use crate::rows::read_row;
 use device::interface::Device;
 use record::header::RecordHeader;
-use record::heading::{is_header, sound};
 use volume_log::cause::LogFault;
-use volume_log::headers::ends_by;
+use volume_log::headers::{ends_by, sound_header};
 use volume_log::log::Log;
 
 // The records of a log up to the position by which the last of them ends.
@@ -24,23 +23,18 @@ pub struct Chain<'a, D> {
 
 impl<'a, D: Device> Chain<'a, D> {
     // The header on the sector of a position, if a record is due there: a header, sound, of a record that ends by the chain's end.
+    #[tactic(auto, using(crate::proofs::Heads::due_by), unfolding(crate::proofs::Heads::answer_by))]
     fn header_due(&self, position: u64, sector: &[u8; 512]) -> Result<RecordHeader, LogFault>
         ensures answer { outcome result ≡ due_answer self.now.log.geometry.label self.now.end position sector.now }
         ensures fits { IfOk result (λ header. end_of header position < 2 ^ 64) }
     {
         let geometry = self.log.geometry;
-        let at = geometry.sector_of(position);
-        if !is_header(sector) {
-            return Err(LogFault::Chain { sector: at });
+        match sound_header(geometry, position, sector)? {
+            Some(header) if ends_by(&header, position, self.end) => Ok(header),
+            _ => Err(LogFault::Chain {
+                sector: geometry.sector_of(position),
+            }),
         }
-        let header = RecordHeader::from(sector);
-        if !sound(geometry, &header, position) {
-            return Err(LogFault::Unsound { sector: at });
-        }
-        if !ends_by(&header, position, self.end) {
-            return Err(LogFault::Chain { sector: at });
-        }
-        Ok(header)
     }
 
     // Reads the header that is due at a position, with `room` bytes for its data.

@@ -9,6 +9,15 @@ use volume_log::found::Found;
 use volume_log::labels::read_label;
 use volume_log::log::Log;
 
+// What is found in a log just labelled: its one record stands at position 32.
+const FRESH: Found = Found {
+    greatest: 33,
+    head: 34,
+    newest: 32,
+    end: 34,
+    tail: 32,
+};
+
 // The log of a volume, by its label.
 fn log_of(volume: &Memory) -> Result<Log<'_, Memory>, Fail> {
     Ok(Log {
@@ -64,14 +73,7 @@ fn holds(
 #[test]
 fn just_labelled(rt: HostRuntime) -> Result<(), Fail> {
     let volume = labelled(&rt)?;
-    let wanted = Found {
-        greatest: 33,
-        head: 34,
-        newest: 32,
-        end: 34,
-        tail: 32,
-    };
-    finds(&rt, &volume, wanted)?;
+    finds(&rt, &volume, FRESH)?;
     holds(&rt, &volume, 34, 32, 7, 8)?;
     holds(&rt, &volume, 34, 32, 12, 0x6e)
 }
@@ -166,14 +168,7 @@ fn broken_chain(rt: HostRuntime) -> Result<(), Fail> {
 fn wrong_sum(rt: HostRuntime) -> Result<(), Fail> {
     let mut volume = labelled(&rt)?;
     spoil(&rt, &mut volume, 33, 100, 1)?;
-    let wanted = Found {
-        greatest: 33,
-        head: 34,
-        newest: 32,
-        end: 34,
-        tail: 32,
-    };
-    finds(&rt, &volume, wanted)?;
+    finds(&rt, &volume, FRESH)?;
     bad(&rt, &volume, 34, 32, 9, 32)
 }
 

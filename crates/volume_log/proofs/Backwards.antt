@@ -1,11 +1,12 @@
 -- The way back from the head. Assumes nothing.
-use Rattle.std.proofs.Common.{◌≡◌, ℕ, zero, suc, ◌+◌, ◌-◌, ◌<◌, Bool, true, false, cond, not, ◌&&◌, ◌||◌, leb, List, Ok, Err, sym, refl, ap, ◌∙◌, arith}
+use Rattle.std.proofs.Common.{◌≡◌, ℕ, zero, suc, ◌+◌, ◌-◌, ◌<◌, Bool, true, false, cond, not, ◌&&◌, ◌||◌, leb, List, Some, None, Ok, Err, sym, refl, ap, ◌∙◌, arith}
 use Rattle.label.specs.declared.label.Label.{Label}
 use Rattle.label.specs.Position.{volume_sector}
+use Rattle.record.specs.declared.header.RecordHeader.{RecordHeader}
 use Rattle.record.specs.Record.{is_header, header_of, sound, end_of}
 use Rattle.model.specs.Refusals.{refusal, by_record, Outcome, ◌>>=◌, need}
 use Rattle.model.specs.View.{at, newest_of}
-use Rattle.volume_log.specs.Seeking.{look_at}
+use Rattle.volume_log.specs.Seeking.{ends_in, look_at}
 
 -- what follows from a look at x
 abbrev pub after_look : Outcome Bool → ℕ → Outcome ℕ → Outcome ℕ
@@ -21,10 +22,20 @@ looked true true false L x older = refl
 looked true false c L x older = refl
 looked false b c L x older = refl
 
+-- the look, by what the sector tells
+told : (a b : Bool) (L : Label) (h x : ℕ) (r : RecordHeader)
+    → cond a (need b (refusal 7 by_record (volume_sector L x) 0) >>= λ _. Ok (leb (end_of r x) h)) (Ok false)
+    ≡ (cond a (need b (refusal 7 by_record (volume_sector L x) 0) >>= λ _. Ok (Some r)) (Ok None) >>= λ o. Ok (ends_in h x o))
+told true true L h x r = refl
+told true false L h x r = refl
+told false b L h x r = refl
+
 back_at : (L : Label) (log : List (List ℕ)) (h low n : ℕ) → newest_of L log h low (suc n) ≡ after_look (look_at L h (low + n) (at L log (low + n))) (low + n) (newest_of L log h low n)
 back_at L log h low n =
     let b = at L log (low + n) in
-    looked (is_header b) (sound L (header_of b) (low + n)) (leb (end_of (header_of b) (low + n)) h) L (low + n) (newest_of L log h low n)
+    let s = sound L (header_of b) (low + n) in
+    looked (is_header b) s (leb (end_of (header_of b) (low + n)) h) L (low + n) (newest_of L log h low n)
+    ∙ ap (λ v. after_look v (low + n) (newest_of L log h low n)) (told (is_header b) s L h (low + n) (header_of b))
 
 -- one step back, with what a look says there
 pub back_step : (L : Label) (log : List (List ℕ)) (h low x : ℕ) (v : Outcome Bool) → low < x → look_at L h (x - 1) (at L log (x - 1)) ≡ v

@@ -1,7 +1,7 @@
 // What a record's header tells at its position.
 ghost use Rattle.std.specs.Prelude.{◌≡◌, ◌^◌, ◌<◌, min, nat_le};
 ghost use Rattle.volume_log.specs.Faults.{outcome};
-ghost use Rattle.volume_log.specs.Seeking.{look_at};
+ghost use Rattle.volume_log.specs.Seeking.{sound_header, look_at};
 ghost use Rattle.record.specs.Record.{end_of};
 
 use crate::cause::LogFault;
@@ -24,6 +24,26 @@ pub fn ends_by(header: &RecordHeader, position: u64, end: u64) -> bool
     position < end && (header.length as u64 / 512) < end - position
 }
 
+// The header on the sector of a position; none where the sector is no header, refused where the header is not sound there.
+pub fn sound_header(
+    geometry: Geometry,
+    position: u64,
+    sector: &[u8; 512],
+) -> Result<Option<RecordHeader>, LogFault>
+    ensures { outcome result ≡ sound_header geometry.label position sector.now }
+{
+    if !is_header(sector) {
+        return Ok(None);
+    }
+    let header = RecordHeader::from(sector);
+    if !sound(geometry, &header, position) {
+        return Err(LogFault::Unsound {
+            sector: geometry.sector_of(position),
+        });
+    }
+    Ok(Some(header))
+}
+
 // Whether the newest record stands at `position`, back from the head: there is a header, and its record ends by the head;
 // refused where the header is not sound.
 pub(crate) fn look_at(
@@ -34,14 +54,6 @@ pub(crate) fn look_at(
 ) -> Result<bool, LogFault>
     ensures { outcome result ≡ look_at geometry.label head position sector.now }
 {
-    if !is_header(sector) {
-        return Ok(false);
-    }
-    let header = RecordHeader::from(sector);
-    if !sound(geometry, &header, position) {
-        return Err(LogFault::Unsound {
-            sector: geometry.sector_of(position),
-        });
-    }
-    Ok(ends_by(&header, position, head))
+    let header = sound_header(geometry, position, sector)?;
+    Ok(header.is_some_and(|header| ends_by(&header, position, head)))
 }

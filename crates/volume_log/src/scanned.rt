@@ -36,6 +36,7 @@ impl<'a, D: Device> Scanned<'a, D> {
         let mut greatest: u64 = 0;
         for i in 0..log.geometry.label.count {
             let sector = log.read(i as u64)?;
+            // Kept: `held_position` is the same number, but its clause hides the cycle's 32 bits, by which it fits; `grind` found no other way.
             greatest = greatest.max(join(log.geometry, (held_cycle(&sector), i)));
         }
         Ok(Scanned { log, greatest })
