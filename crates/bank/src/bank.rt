@@ -8,6 +8,7 @@ ghost use Rattle.bank.specs.Banks.{early_by, class_by, meant_by};
 use item::class::Class;
 use item::item::Item;
 
+// Kept: the number beside the item, since it chooses the kind, and a kind is asked of the item alone.
 // A bank has one kind or none for a type number. Its calls are those of the kind, with the number in front.
 pub trait ItemBank {
     ghost kinds: { Bank };

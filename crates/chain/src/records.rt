@@ -78,6 +78,7 @@ impl<'a, D: Device> Chain<'a, D> {
 }
 
 // The data of a record that was read: the front of the buffer, as long as its header tells.
+// Kept: a length beside the buffer, since `read_record` speaks of all of the buffer, which a slice lent out of it would hide.
 pub fn data_of<'a>(header: &RecordHeader, buffer: &'a [u8]) -> &'a [u8]
     ensures { result.now ≡ take header.now.length buffer.now }
 {

@@ -18,7 +18,7 @@ use std::io;
 const SECTORS: usize = 64;
 
 // Sectors 32 to 63 are the log, `window` of them may be in flight, and a record has at most 4096 bytes of data.
-// Kept: each program and each crate of tests states its own volume, so that a change for one alters no other's output.
+// Kept: shared by programs and tests it would need a crate of its own for one constant.
 fn label_with(window: u32) -> Label {
     Label {
         start: 32,

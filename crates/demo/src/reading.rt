@@ -84,6 +84,7 @@ fn tell_record(rt: &HostRuntime, log: Log<'_, Memory>) -> io::Result<()> {
 }
 
 // The fields of a header.
+// Kept: the words are this story's; a Display of `RecordHeader` would put them into the library.
 fn tell_header(rt: &HostRuntime, geometry: Geometry, header: &RecordHeader) -> io::Result<()> {
     println!(rt;
         "its record at position {}: {} bytes of data, {} op, tail {}, record before {:08x}",

@@ -8,6 +8,7 @@ use crate::refusal::{Layer, Refusal};
 use device::fault::DeviceFault;
 
 // The device's refusal travels up as it is.
+// Kept: each layer has its own enum of causes, a rule of the project, and so its own `From`.
 impl From<DeviceFault> for Fault {
     ghost from_gives = { λ e r. r ≡ Device e };
 

@@ -65,6 +65,7 @@ fn tell_log(rt: &HostRuntime, volume: &Memory, geometry: Geometry) -> io::Result
     }
 }
 
+// Kept: the words are this story's; a Display of `Found` would put them into the library.
 fn tell_found(rt: &HostRuntime, found: Found) -> io::Result<()> {
     let Found {
         greatest,
@@ -86,6 +87,7 @@ fn tell_records(rt: &HostRuntime, log: Log<'_, Memory>, found: Found) -> io::Res
     };
     let mut buffer = [0u8; 32768];
     let mut position = found.tail;
+    // Kept: a `while`, since where the next record begins is known only from the one that was read.
     while position < chain.end {
         match chain.read_record(position, &mut buffer) {
             Ok(header) => {

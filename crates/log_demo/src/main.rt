@@ -9,7 +9,7 @@ use label::label::Label;
 use std::io;
 
 // Sectors 32 to 63 are the log, 16 of them may be in flight, and a record has at most 4096 bytes of data.
-// Kept: each program and each crate of tests states its own volume, so that a change for one alters no other's output.
+// Kept: shared by programs and tests it would need a crate of its own for one constant.
 const LABEL: Label = Label {
     start: 32,
     count: 32,

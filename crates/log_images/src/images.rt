@@ -13,7 +13,7 @@ use stored::short::short_record;
 use volume_log::cause::LogFault;
 
 // Sectors 32 to 63 are the log, with a window of 16 and records of at most 4096 bytes.
-// Kept: each program and each crate of tests states its own volume, so that a change for one alters no other's output.
+// Kept: shared by programs and tests it would need a crate of its own for one constant.
 const LABEL: Label = Label {
     start: 32,
     count: 32,
@@ -74,6 +74,7 @@ pub fn put_record(
     position: u64,
     tail: u64,
 ) -> Result<(), Fail> {
+    // Kept: `ok_or` was tried; it makes the failure also where there is none, and a `Fail` cannot be let go.
     let Some(own) = split(geometry, position) else {
         return Err(Fail::new("no such position"));
     };

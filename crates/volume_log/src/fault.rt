@@ -7,6 +7,7 @@ use crate::cause::LogFault;
 use device::fault::DeviceFault;
 
 // The device's refusal travels up as it is.
+// Kept: each layer has its own enum of causes, a rule of the project, and so its own `From`.
 impl From<DeviceFault> for LogFault {
     ghost from_gives = { λ e r. r ≡ Device e };
 
