@@ -100,6 +100,7 @@ fn tell_records(rt: &HostRuntime, log: Log<'_, Memory>, found: Found) -> io::Res
     Ok(())
 }
 
+// Kept: the words are this story's; a Display of `RecordHeader` would put them into the library.
 fn tell_header(
     rt: &HostRuntime,
     geometry: Geometry,

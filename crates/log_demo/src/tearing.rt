@@ -21,6 +21,7 @@ pub fn tear(volume: &mut Memory, geometry: Geometry) -> Result<(), DeviceFault> 
 }
 
 // Changes a byte of a sector.
+// Kept: that of the tests sets any byte to anything; shared it would be a public function with five arguments.
 pub fn spoil(volume: &mut Memory, sector: u64) -> Result<(), DeviceFault> {
     let mut bytes = [0u8; 512];
     volume.read(sector, &mut bytes)?;

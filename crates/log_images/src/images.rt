@@ -44,7 +44,7 @@ pub fn without(rt: &impl Abort, volume: Memory, sector: usize) -> Result<Memory,
 }
 
 // Changes a byte of a sector.
-// Kept: that of log_demo changes one byte of one number; shared it would be a public function with these five arguments for both.
+// Kept: that of log_demo always sets byte 100 to 1; shared it would be a public function with five arguments.
 pub fn spoil(
     rt: &impl Abort,
     volume: &mut Memory,
@@ -74,13 +74,8 @@ pub fn put_record(
     position: u64,
     tail: u64,
 ) -> Result<(), Fail> {
-    // Kept: `ok_or` was tried; it makes the failure also where there is none, and a `Fail` cannot be let go.
-    let Some(own) = split(geometry, position) else {
-        return Err(Fail::new("no such position"));
-    };
-    let Some(oldest) = split(geometry, tail) else {
-        return Err(Fail::new("no such tail"));
-    };
+    let own = split(geometry, position).ok_or_else(|| Fail::new("no such position"))?;
+    let oldest = split(geometry, tail).ok_or_else(|| Fail::new("no such tail"))?;
     let sectors = short_record(geometry, own, oldest, 0, 0, [7; 512]);
     Ok(write_range(volume, geometry.sector_of(position), &sectors)?)
 }
