@@ -92,11 +92,15 @@ def point2(root):
             yield from places
 
 
-def point3(root):
+def lines(root, pattern):
     for path, text in sources(root):
         for n, line in enumerate(text.split("\n"), 1):
-            if re.search(r"^\s*(?:while|loop)\b|\bfor [\w&(), ]+ in [^{]*\.\.|\.enumerate\(\)|\b\w+ [+-]= 1;", line):
+            if re.search(pattern, line):
                 yield path, n, line.strip()
+
+
+def point3(root):
+    return lines(root, r"^\s*(?:while|loop)\b|\bfor [\w&(), ]+ in [^{]*\.\.|\.enumerate\(\)|\b\w+ [+-]= 1;")
 
 
 def point4(root):
@@ -152,10 +156,7 @@ def point6(root):
 
 
 def point7(root):
-    for path, text in sources(root):
-        for n, line in enumerate(text.split("\n"), 1):
-            if re.search(r"\bfn\(|\[fn|dyn Fn|Box<dyn|\bstep: u|\bphase\b|\bstage\b|\bmode\b|\bwhich\b: ", line):
-                yield path, n, line.strip()
+    return lines(root, r"\bfn\(|\[fn|dyn Fn|Box<dyn|\bstep: u|\bphase\b|\bstage\b|\bmode\b|\bwhich\b: ")
 
 
 def point8(root):
