@@ -10,6 +10,7 @@ mod tests {
     use item::class::Class;
     use item::item::Item;
     use item::place::Place;
+    use item::region::region_at;
     use keys::patch::PatchKey;
 
     const BUFFER: u16 = 0x123C;
@@ -121,5 +122,20 @@ mod tests {
         assert_eq!(rt; bank.classify(BUFFER, patch), Some(Class::Patch(SECTOR_8)));
         assert_eq!(rt; bank.classify(OPEN, open), None);
         assert!(rt; bank.has(BUFFER) && !bank.has(OPEN) && !bank.has(CLOSE));
+    }
+
+    // The first four bytes, by a place that is gone when they are handed out.
+    fn first_four(bytes: &[u8]) -> &[u8] {
+        let places = [Place {
+            offset: 0,
+            length: 4,
+        }];
+        region_at(bytes, &places, 0)
+    }
+
+    #[test]
+    fn a_region_outlives_its_places(rt: HostRuntime) {
+        assert_eq!(rt; first_four(b"region").len(), 4);
+        assert_eq!(rt; first_four(b"end").len(), 3);
     }
 }

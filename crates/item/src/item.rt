@@ -3,6 +3,7 @@ ghost use Rattle.std.specs.Prelude.{◌≡◌, [], length, drop, slice_index_or}
 ghost use Rattle.item.specs.Items.{regions_of};
 
 use crate::place::Place;
+use crate::region::region_at;
 
 // The bytes of a buffer, and where in it the item's regions lie.
 #[derive(Clone, Copy, Debug)]
@@ -23,10 +24,7 @@ impl<'a> Item<'a> {
     pub fn region(&self, i: usize) -> &'a [u8]
         ensures { result.now ≡ slice_index_or (regions_of self.now) i [] }
     {
-        match self.places.get(i) {
-            Some(place) => place.region(self.bytes),
-            None => &[],
-        }
+        region_at(self.bytes, self.places, i)
     }
 
     // What it has behind its first region.

@@ -7,3 +7,4 @@ pub mod item;
 pub mod kind;
 pub mod place;
 pub mod range;
+pub mod region;
