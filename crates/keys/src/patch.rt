@@ -2,6 +2,7 @@
 ghost use Rattle.keys.specs.Keys.{same_key};
 ghost use Rattle.std.proofs.Common.{rules};
 
+use search::entry::Entry;
 use search::key::Key;
 
 // A sector, and a length in sectors.
@@ -22,5 +23,16 @@ impl Key for PatchKey {
 
     fn same_as(&self, other: &PatchKey) -> bool {
         self == other
+    }
+}
+
+// A key is an entry that is found by itself.
+impl Entry for PatchKey {
+    type By = PatchKey;
+
+    ghost by = { λ e. e };
+
+    fn by(&self) -> &PatchKey {
+        self
     }
 }

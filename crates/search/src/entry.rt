@@ -2,7 +2,7 @@
 ghost use Rattle.std.specs.Prelude.{◌≡◌, true};
 ghost use Rattle.search.specs.Places.{First, place_of};
 
-use crate::key::Key;
+use crate::key::{Key, Number};
 
 // An entry, and the key that it is found by.
 pub trait Entry {
@@ -14,13 +14,13 @@ pub trait Entry {
         ensures { result.now ≡ by self.now };
 }
 
-// A key is an entry that is found by itself.
-impl<K: Key> Entry for K {
-    type By = K;
+// A number is an entry that is found by itself.
+impl<N: Number> Entry for N {
+    type By = N;
 
     ghost by = { λ e. e };
 
-    fn by(&self) -> &K {
+    fn by(&self) -> &N {
         self
     }
 }
