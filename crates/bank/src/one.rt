@@ -27,7 +27,11 @@ impl<K: ItemKind> ItemBank for One<K> {
     }
 
     fn classify(&self, number: u16, item: Item<'_>) -> Option<Class> {
-        self.kind.has(number).then_some(self.kind.classify(item))
+        // Kept: by `then` with a closure the clause was not proved; `then_some` asks the kind of an item that is not its own.
+        if !self.kind.has(number) {
+            return None;
+        }
+        Some(self.kind.classify(item))
     }
 
     fn covers(&self, number: u16, item: Item<'_>, j: usize) -> bool {

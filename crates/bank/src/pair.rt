@@ -23,13 +23,17 @@ impl<A: ItemBank, B: ItemBank> ItemBank for Pair<A, B> {
     }
 
     fn is_early(&self, number: u16) -> Option<bool> {
-        self.first.is_early(number).or(self.second.is_early(number))
+        self.first
+            .is_early(number)
+            .or_else(|| self.second.is_early(number))
     }
 
     fn classify(&self, number: u16, item: Item<'_>) -> Option<Class> {
-        self.first
-            .classify(number, item)
-            .or(self.second.classify(number, item))
+        // Kept: by `or_else` the clause was not proved; `or` asks the second bank of an item that is the first's.
+        match self.first.classify(number, item) {
+            None => self.second.classify(number, item),
+            found => found,
+        }
     }
 
     // Kept: `covers` and `lay` give no `Option`, so they ask which of the two banks has the number.
