@@ -42,9 +42,26 @@ pub fn bytes_at<const K: usize>(b: &[u8], at: usize) -> [u8; K]
     if let Some((whole, _)) = rest.split_first_chunk() {
         return *whole;
     }
-    let mut bytes = [0; K];
-    bytes[..rest.len()].copy_from_slice(rest);
-    bytes
+    padded(rest)
+}
+
+// Byte `k`; 0 where that is past the end.
+fn byte(bytes: &[u8], k: usize) -> u8
+    ensures { result ≡ slice_index bytes.now k }
+{
+    bytes.get(k).copied().unwrap_or(0)
+}
+
+// The first `K` bytes, zeros behind the last. One after the other, since a copy of any length takes longer for so few.
+// Kept: the place by its number. With `array::from_fn` the clause was not proved.
+fn padded<const K: usize>(bytes: &[u8]) -> [u8; K]
+    ensures { (k : ℕ) → k < K → slice_index result k ≡ slice_index bytes.now k }
+{
+    let mut whole = [0; K];
+    for k in 0..K {
+        whole[k] = byte(bytes, k);
+    }
+    whole
 }
 
 // Kept: a body for each type. What bytes come to is told of each type by itself: one body over a trait of `from_be_bytes` would move these lines into its laws.
