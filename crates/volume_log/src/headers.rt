@@ -25,6 +25,8 @@ pub fn ends_by(header: &RecordHeader, position: u64, end: u64) -> bool
 }
 
 // The header on the sector of a position; none where the sector is no header, refused where the header is not sound there.
+// Inlined, as `look_at` is: of most sectors the first word is all that matters, and the other bytes are then not copied.
+#[inline(always)]
 pub fn sound_header(
     geometry: Geometry,
     position: u64,
@@ -46,6 +48,7 @@ pub fn sound_header(
 
 // Whether the newest record stands at `position`, back from the head: there is a header, and its record ends by the head;
 // refused where the header is not sound.
+#[inline(always)]
 pub(crate) fn look_at(
     geometry: Geometry,
     head: u64,
