@@ -11,9 +11,13 @@ const PIECE: usize = 32768;
 
 const PIECES: u64 = 8192;
 
-// Byte `i` of the piece is `i` modulo 251.
+// Byte `i` of the piece is `i` modulo 251; made whole and then filled, since a push for each byte looks for room each time.
 fn piece(heap: Global) -> Result<Vec<u8>, AllocError> {
-    (0..PIECE).map(|i| (i % 251) as u8).collect(heap)
+    let mut bytes = vec![in heap; 0; PIECE]?;
+    for (i, byte) in bytes.iter_mut().enumerate() {
+        *byte = (i % 251) as u8;
+    }
+    Ok(bytes)
 }
 
 // The state after the piece, `PIECES` times over.
