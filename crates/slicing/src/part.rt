@@ -11,8 +11,8 @@ use device::interface::Device;
 // The sectors of `extent` on a device, in their own numbering.
 #[derive(Drop)]
 pub struct Slice<D> {
-    inner: D,
-    extent: Extent,
+    pub inner: D,
+    pub extent: Extent,
 }
 
 // A slice of a device that is lent: when it is gone the lender has the device with what was written through it.
