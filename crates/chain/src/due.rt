@@ -22,7 +22,14 @@ pub(crate) struct DueHeader {
 
 impl DueHeader {
     ghost use Rattle.volume_log.specs.Faults.{outcome};
-    ghost use Rattle.chain.specs.Records.{sum_answer, restored_data};
+    ghost use Rattle.chain.specs.Records.{sum_right, sum_answer, restored_data};
+
+    // Whether the checksum is the one that the header tells, by the record's data as stored.
+    fn sum_is_right(&self, stored: &[u8]) -> bool
+        ensures { result ≡ sum_right self.now.sector stored.now }
+    {
+        checksum(&self.sector, stored) == self.header.sum
+    }
 
     // Judges the checksum by the record's data as stored, and puts the saved words back.
     pub(crate) fn restore(&self, geometry: Geometry, stored: &mut [u8]) -> Result<(), LogFault>
@@ -30,7 +37,7 @@ impl DueHeader {
         ensures answer { outcome result ≡ sum_answer geometry.label self.now.position self.now.sector stored.old }
         ensures buffer { stored.new ≡ restored_data self.now.sector stored.old }
     {
-        if checksum(&self.sector, stored) != self.header.sum {
+        if !self.sum_is_right(stored) {
             return Err(LogFault::Checksum {
                 sector: geometry.sector_of(self.position),
             });
